@@ -1,0 +1,20 @@
+//! The words that every layer shares: blocks, pages, stamps, answers, and the two traits of the outside.
+#![tactic(auto)]
+
+mod answer;
+mod geometry;
+mod items;
+mod sector;
+mod stamp;
+
+pub use answer::{Alignment, Answer, Fault, Reply, Status, Stop, Why};
+pub use geometry::{BadGeometry, Geometry};
+pub use items::Items;
+pub use sector::{Page, Sector};
+pub use stamp::{FileId, Mark, Mode, Op, Stamp, Tag};
+
+/// How many blocks of a file one range has: no mapping crosses a multiple of it.
+pub const STRIPE: u64 = 64;
+
+/// The cookie from which on an event that may be refused changes no kind any more: 2^64 - 2^32.
+pub const WORN: u64 = 18446744069414584320;
