@@ -1,4 +1,4 @@
-use Rattle.std.specs.Prelude.{ℕ, List}
+use Rattle.std.specs.Prelude.{ℕ, zero, suc, List, [], ◌∷◌, ◌++◌, replicate}
 
 -- a block of a device: its number there, and its bytes
 pub record DeviceBlock : Type 0 where
@@ -7,3 +7,8 @@ pub record DeviceBlock : Type 0 where
 
 abbrev pub device_block : ℕ → List ℕ → DeviceBlock
 device_block number bytes = record { number = number; bytes = bytes }
+
+-- the blocks below this number, in order, each with so many bytes of this value
+abbrev pub fresh_blocks : ℕ → ℕ → ℕ → List DeviceBlock
+fresh_blocks size fill zero = []
+fresh_blocks size fill (suc n) = fresh_blocks size fill n ++ device_block n (replicate size fill) ∷ []

@@ -4,3 +4,6 @@ pub mod DeviceBlock
 pub mod Errno
 pub mod Geometry
 pub mod Layout
+pub mod Lending
+pub mod Memory
+pub mod Outside

@@ -4,14 +4,20 @@
 mod answer;
 mod geometry;
 mod items;
+mod memory;
+mod outside;
 mod sector;
 mod stamp;
+mod streams;
 
 pub use answer::{Alignment, Answer, Fault, Reply, Status, Stop, Why};
 pub use geometry::{BadGeometry, Geometry};
 pub use items::Items;
-pub use sector::{Page, Sector};
+pub use memory::{MemSink, MemSource};
+pub use outside::{Failed, Sink, Source};
+pub use sector::{Page, Sector, sectors};
 pub use stamp::{FileId, Mark, Mode, Op, Stamp, Tag};
+pub use streams::{StdSink, StdSource};
 
 /// How many blocks of a file one range has: no mapping crosses a multiple of it.
 pub const STRIPE: u64 = 64;

@@ -1,6 +1,6 @@
 //! Blocks of the device and pages of memory, each with an owner.
-ghost use Rattle.std.specs.Prelude.{◌≡◌, ◌<◌, ◌^◌, IfOk, length};
-ghost use Rattle.std.specs.List.{refill};
+ghost use Rattle.std.specs.Prelude.{◌≡◌, IfOk};
+ghost use Rattle.iob_base.specs.DeviceBlock.{fresh_blocks};
 
 use crate::geometry::Geometry;
 use crate::items::Items;
@@ -32,6 +32,9 @@ pub struct Page {
 }
 
 impl Sector {
+    ghost use Rattle.iob_base.specs.Lending.{LendsBytes};
+    ghost use Rattle.std.specs.Borrow.{sem};
+
     /// The number of the block on its device.
     pub fn number(&self) -> u32
         ensures { result ≡ self.now.number }
@@ -45,4 +48,30 @@ impl Sector {
     {
         self.bytes.as_slice()
     }
+
+    /// The block's bytes, to be written.
+    pub fn bytes_mut(&mut self) -> &mut [u8]
+        ensures* writes_back { sem 𝓛 (LendsBytes self.entry result) }
+        ensures value { result.now ≡ self.old.bytes }
+    {
+        self.bytes.as_mut_slice()
+    }
+}
+
+/// A device of so many blocks, each byte `fill`: the blocks with the numbers from 0 on, in order.
+pub fn sectors(
+    alloc: Global,
+    geometry: Geometry,
+    blocks: u32,
+    fill: u8,
+) -> Result<Vec<Sector>, AllocError>
+    ensures { IfOk result (λ all. all.items ≡ fresh_blocks geometry.block_size fill blocks) }
+{
+    let size = geometry.block_size() as usize;
+    let mut all = Vec::with_capacity(alloc, blocks as usize)?;
+    for number in 0..blocks {
+        let bytes = vec![in alloc; fill; size]?;
+        all.push(Sector { number, bytes })?;
+    }
+    Ok(all)
 }
