@@ -1,4 +1,4 @@
-use Rattle.std.specs.Prelude.{ℕ, ◌+◌, Bool, ◌==◌, List, [], length, drop, min}
+use Rattle.std.specs.Prelude.{ℕ, ◌+◌, Bool, ◌==◌, List, [], drop}
 use Rattle.std.specs.List.{list_any}
 use Rattle.iob_base.specs.Counts.{count_after}
 

@@ -82,4 +82,12 @@ impl<T: Copy> Items<T> {
         let items = Vec::from_slice(alloc, items)?;
         Ok(Items { items })
     }
+
+    /// Takes over the elements of `from`, which has as many.
+    pub fn copy_from_slice(&mut self, from: &[T])
+        requires { length self.old ≡ length from.now }
+        ensures { self.new ≡ from.now }
+    {
+        self.items.as_mut_slice().copy_from_slice(from);
+    }
 }

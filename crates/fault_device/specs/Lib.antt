@@ -1,0 +1,7 @@
+pub mod Judging
+pub mod LaneView
+pub mod Listing
+pub mod Opening
+pub mod Ran
+pub mod Telling
+pub mod Transfer

@@ -1,0 +1,13 @@
+//! A device port whose transfers may fail, and the fate that says which do.
+#![tactic(auto)]
+
+mod fate;
+mod lane;
+mod listed;
+mod moves;
+mod part;
+
+pub use fate::{Fate, Verdict};
+pub use lane::{Done, Lane};
+pub use listed::Listed;
+pub use part::Part;
