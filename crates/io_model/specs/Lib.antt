@@ -1,0 +1,17 @@
+pub mod Answered
+pub mod Calls
+pub mod Contents
+pub mod Effects
+pub mod Rows
+pub mod Finals
+pub mod Fitting
+pub mod Journals
+pub mod Kinds
+pub mod Lists
+pub mod Pages
+pub mod Parts
+pub mod Reads
+pub mod ReplyText
+pub mod Right
+pub mod RunText
+pub mod Text

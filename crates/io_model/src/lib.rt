@@ -3,6 +3,7 @@
 #![tactic(auto)]
 
 mod file;
+mod laws;
 mod run;
 mod script;
 

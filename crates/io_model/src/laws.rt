@@ -1,0 +1,12 @@
+//! The definitions, tried on runs that can be checked by hand.
+ghost use Rattle.std.specs.Prelude.{◌≡◌, [], ◌∷◌, false};
+ghost use Rattle.io_model.specs.Right.{RunIsRight};
+ghost use Rattle.io_model.specs.Rows.ReadsOneMappedBlock as reads_one_mapped_block;
+ghost use Rattle.io_model.specs.RunText.{run_text};
+
+/// A read of one mapped block gives the block's bytes, and leaves one stamp there.
+#[tactic(auto, unfolding(crate::specs::Rows::Parts::printed))]
+pub fn reads_one_mapped_block()
+    ensures right { RunIsRight reads_one_mapped_block.script (0 ∷ []) reads_one_mapped_block.run }
+    ensures text { run_text reads_one_mapped_block.script reads_one_mapped_block.run false ≡ reads_one_mapped_block.text }
+{}
