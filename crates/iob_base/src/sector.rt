@@ -5,6 +5,7 @@ ghost use Rattle.iob_base.specs.DeviceBlock.{fresh_blocks};
 use crate::geometry::Geometry;
 use crate::items::Items;
 use std::alloc::{AllocError, Global};
+use std::default::MadeWith;
 use std::marker::Model;
 
 /// A block of the device, which whoever has this value owns. It can't be cloned: bytes reach it only
@@ -29,6 +30,16 @@ impl Model for Sector {
 pub struct Page {
     pub number: u64,
     pub bytes: Items<u8>,
+}
+
+/// A page without bytes, with the number 0. It takes no memory.
+impl MadeWith<Global> for Page {
+    fn made_with(alloc: Global) -> Page {
+        Page {
+            number: 0,
+            bytes: Items::new(alloc),
+        }
+    }
 }
 
 impl Sector {

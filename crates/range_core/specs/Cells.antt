@@ -1,0 +1,33 @@
+use Rattle.std.specs.Prelude.{◌≡◌, ℕ, Option, Some, None, List, [], ◌∷◌, length, drop, slice_get, IsSomeAnd, if◌then◌else◌}
+use Rattle.iob_base.specs.DeviceBlock.{DeviceBlock}
+use Rattle.io_model.specs.Kinds.{device_number}
+use Rattle.io_model.specs.declared.file.Kind.{Kind}
+use Rattle.range_core.specs.Kinds.{has_space}
+use Rattle.range_core.specs.declared.cell.Cell.{Cell}
+
+-- a block of the device is the one of this number, and whole
+pub record IsBlock (size number : ℕ) (sector : DeviceBlock) : Type 0 where
+  pub is : sector.number ≡ number
+  pub whole : length sector.bytes ≡ size
+
+-- a kind with space has its sector, and any other kind none
+abbrev pub HasSector : ℕ → Option ℕ → Option DeviceBlock → Type 0
+HasSector size None sector = sector ≡ None
+HasSector size (Some number) sector = IsSomeAnd sector (IsBlock size number)
+
+-- a block is at home: it has its sector where its kind has space
+abbrev pub IsHome : ℕ → Cell → Type 0
+IsHome size c = HasSector size (device_number c.kind) c.sector
+
+-- a block of this kind, with the next sector where it has space
+abbrev pub cell_of : Kind → List DeviceBlock → Cell
+cell_of kind sectors = record { kind = kind; sector = if has_space kind then slice_get sectors 0 else None }
+
+-- the sectors that are left for the blocks after it
+abbrev pub sectors_after : Kind → List DeviceBlock → List DeviceBlock
+sectors_after kind sectors = if has_space kind then drop 1 sectors else sectors
+
+-- blocks of these kinds, with the sectors in order
+abbrev pub cells_of : List Kind → List DeviceBlock → List Cell
+cells_of [] sectors = []
+cells_of (kind ∷ kinds) sectors = cell_of kind sectors ∷ cells_of kinds (sectors_after kind sectors)

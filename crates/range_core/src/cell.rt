@@ -1,0 +1,69 @@
+//! What a range keeps of a block, and the kinds that extents give.
+ghost use Rattle.std.specs.Prelude.{◌≡◌, ◌<◌, ◌≤◌, ◌+◌, ◌^◌, All, IfSome};
+ghost use Rattle.io_model.specs.Kinds.{covers, kind_after, kind_at, device_number, is_kind};
+ghost use Rattle.range_core.specs.Kinds.{HasNumbers, has_space};
+
+use io_model::{Extent, Kind};
+use iob_base::Sector;
+
+/// A block of a range: its kind, and its sector where it has space.
+#[derive(Drop)]
+pub struct Cell {
+    pub kind: Kind,
+    pub sector: Option<Sector>,
+}
+
+/// The kind that the extents give to a block of the file.
+pub(crate) fn kind_of(extents: &[Extent], block: u64) -> Kind
+    requires { All HasNumbers extents.now }
+    ensures { result ≡ kind_at extents.now block }
+{
+    for extent in extents {
+        if is_in(extent, block) {
+            return nth_kind(extent.kind, block - extent.block);
+        }
+    }
+    Kind::Hole
+}
+
+fn is_in(extent: &Extent, block: u64) -> bool
+    ensures { result ≡ covers extent.now block }
+{
+    if block < extent.block {
+        return false;
+    }
+    block - extent.block < extent.length
+}
+
+fn nth_kind(kind: Kind, i: u64) -> Kind
+    requires { IfSome (device_number kind) (λ d. d + i < 2 ^ 32) }
+    ensures { result ≡ kind_after kind i }
+{
+    match kind {
+        Kind::Hole => Kind::Hole,
+        Kind::Delalloc => Kind::Delalloc,
+        Kind::Unwritten(d) => Kind::Unwritten(d + i as u32),
+        Kind::Mapped(d) => Kind::Mapped(d + i as u32),
+    }
+}
+
+/// Whether a block of this kind is the i-th of an extent that begins with `first`.
+pub(crate) fn continues(first: Kind, i: u64, kind: Kind) -> bool
+    requires { i ≤ 65536 }
+    ensures { result ≡ is_kind kind (kind_after first i) }
+{
+    match (kind, first) {
+        (Kind::Hole, Kind::Hole) => true,
+        (Kind::Delalloc, Kind::Delalloc) => true,
+        (Kind::Unwritten(d), Kind::Unwritten(e)) => u64::from(d) == u64::from(e) + i,
+        (Kind::Mapped(d), Kind::Mapped(e)) => u64::from(d) == u64::from(e) + i,
+        _ => false,
+    }
+}
+
+/// Whether blocks of this kind have a sector.
+pub(crate) fn is_placed(kind: Kind) -> bool
+    ensures { result ≡ has_space kind }
+{
+    matches!(kind, Kind::Unwritten(_) | Kind::Mapped(_))
+}

@@ -1,0 +1,1 @@
+//! How sectors and pages are lent to a lane and come back.
