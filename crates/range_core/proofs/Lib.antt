@@ -1,2 +1,3 @@
-pub mod RunLemmas
 pub mod CellLemmas
+pub mod LendingLemmas
+pub mod RunLemmas
