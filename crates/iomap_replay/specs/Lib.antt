@@ -1,4 +1,6 @@
+pub mod Facts
 pub mod Fields
+pub mod Jobs
 pub mod Lines
 pub mod Numbers
 pub mod OnePread

@@ -1,5 +1,6 @@
 //! The lines of a script, one kind at a time.
-ghost use Rattle.std.specs.Prelude.{◌≡◌, ◌+◌, nat_le};
+ghost use Rattle.std.specs.Prelude.{◌≡◌, ◌+◌, ◌≤◌, nat_le, IfSome};
+ghost use Rattle.iomap_replay.specs.Facts.{IsDevice, LiesOn};
 ghost use Rattle.std.specs.List.{list_all};
 ghost use Rattle.std.specs.Option.{option_map};
 ghost use Rattle.iomap_replay.specs.Lines.{device_of, folio_of, file_of, extent_of, pread_of, is_header, is_phase, is_name, is_name_byte};
@@ -46,7 +47,8 @@ pub fn is_phase_line(line: &[u8]) -> bool
 
 /// `dev <block size> <blocks> <fill>`.
 pub fn device_line(line: &[u8]) -> Option<Device>
-    ensures { result ≡ device_of (words line.now) }
+    ensures value { result ≡ device_of (words line.now) }
+    ensures facts { IfSome result IsDevice }
 {
     let (kind, size, blocks, fill) = four(line)?;
     if kind != b"dev".as_slice() {
@@ -109,7 +111,8 @@ fn is_a_name(word: &[u8]) -> bool
 
 /// `file <name> cached <blocks>`.
 pub fn file_line(line: &[u8]) -> Option<(&[u8], u64)>
-    ensures { option_map (λ f. (f.0.now, f.1)) result ≡ file_of (words line.now) }
+    ensures value { option_map (λ f. (f.0.now, f.1)) result ≡ file_of (words line.now) }
+    ensures facts { IfSome result (λ f. (1 ≤ f.1) × (f.1 ≤ 65536)) }
 {
     let (kind, name, mode, blocks) = four(line)?;
     if kind != b"file".as_slice() || !is_a_name(name) || mode != b"cached".as_slice() {
@@ -134,7 +137,8 @@ fn ends_by(first: u64, n: u64, end: u64) -> bool
 
 /// `ext <name> <block> <dev> <n> mapped`, of the file of this name, in its blocks and on the device.
 pub fn extent_line(name: &[u8], blocks: u64, device_blocks: u32, line: &[u8]) -> Option<Extent>
-    ensures { result ≡ extent_of name.now blocks device_blocks (words line.now) }
+    ensures value { result ≡ extent_of name.now blocks device_blocks (words line.now) }
+    ensures facts { IfSome result (LiesOn blocks device_blocks) }
 {
     let (kind, of, block, dev, n, state) = six(line)?;
     if kind != b"ext".as_slice() || of != name || state != b"mapped".as_slice() {
@@ -155,7 +159,8 @@ pub fn extent_line(name: &[u8], blocks: u64, device_blocks: u32, line: &[u8]) ->
 
 /// `<caller> pread <name> <offset> <length>`, of caller 0 and the file of this name.
 pub fn pread_line(name: &[u8], line: &[u8]) -> Option<Asked>
-    ensures { result ≡ pread_of name.now (words line.now) }
+    ensures value { result ≡ pread_of name.now (words line.now) }
+    ensures facts { IfSome result (λ asked. 1 ≤ asked.length) }
 {
     let (caller, kind, of, off, n) = five(line)?;
     let caller = number(caller)?;

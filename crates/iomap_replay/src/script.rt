@@ -1,9 +1,11 @@
 //! The script of a text of the one form that is read.
-ghost use Rattle.std.specs.Prelude.{◌≡◌, IfOk, IsTrue, length, map};
+ghost use Rattle.std.specs.Prelude.{◌≡◌, ◌≤◌, true, IfOk, IfSome, IsTrue, length, map};
 ghost use Rattle.std.specs.Option.{option_map};
 ghost use Rattle.iob_base.specs.Geometry.{is_block_size, is_folio_blocks};
 ghost use Rattle.iob_base.specs.Layout.{layout};
-ghost use Rattle.iomap_replay.specs.OnePread.{head_of, tail_of, shape_of, is_in_one_block, script_with, script_of_lines, script_of};
+ghost use Rattle.iomap_replay.specs.Facts.{IsDevice, LiesInBlock, IsTail, IsShape};
+ghost use Rattle.iomap_replay.specs.OnePread.{head_of, tail_of, shape_of, is_in_one_block, script_of_lines, script_of};
+ghost use Rattle.iomap_replay.specs.Jobs.{shape_of_job, script_of_job, IsJobOf};
 ghost use Rattle.iomap_replay.specs.Words.{words};
 
 use crate::bytes::data_list;
@@ -19,13 +21,21 @@ use std::alloc::{AllocError, Global};
 /// How many bytes a script may have.
 pub const TEXT_LIMIT: usize = 16777216;
 
-/// All but the data lines.
-type Shape<'a> = (Device, Geometry, (&'a [u8], u64), Extent, Asked);
+/// What the run of a script of the one form needs of its lines, beside the script itself.
+#[derive(Drop)]
+pub struct Job {
+    pub device: Device,
+    pub geometry: Geometry,
+    pub blocks: u64,
+    pub extent: Extent,
+    pub asked: Asked,
+}
 
 /// Whether the range lies in the extent and in one block.
 fn lies_in_one_block(block_size: u32, extent: &Extent, asked: &Asked) -> bool
     requires { IsTrue (is_block_size block_size) }
-    ensures { result ≡ is_in_one_block block_size extent.now asked.now }
+    ensures value { result ≡ is_in_one_block block_size extent.now asked.now }
+    ensures facts { 1 ≤ asked.now.length → result ≡ true → LiesInBlock block_size extent.now asked.now }
 {
     let size = u64::from(block_size);
     let block = asked.off / size;
@@ -46,7 +56,8 @@ fn geometry_of(block_size: u32, folio: u32) -> Geometry
 
 /// The first three lines: the header, the device and the blocks of a folio.
 fn head(header: &[u8], device: &[u8], folio: &[u8]) -> Option<(Device, Geometry)>
-    ensures { result ≡ head_of (words header.now) (words device.now) (words folio.now) }
+    ensures value { result ≡ head_of (words header.now) (words device.now) (words folio.now) }
+    ensures facts { IfSome result (λ r. IsDevice r.0 × (r.1.block_size ≡ r.0.block_size)) }
 {
     if !is_header_line(header) {
         return None;
@@ -59,10 +70,11 @@ fn head(header: &[u8], device: &[u8], folio: &[u8]) -> Option<(Device, Geometry)
 /// The last four lines: the file, its extent, the phase and the read.
 fn tail<'a>(device: Device, file: &'a [u8], extent: &[u8], phase: &[u8], call: &[u8]) -> Option<((&'a [u8], u64), Extent, Asked)>
     requires { IsTrue (is_block_size device.block_size) }
-    ensures {
+    ensures value {
         option_map (λ t. ((t.0.0.now, t.0.1), t.1, t.2)) result
           ≡ tail_of device (words file.now) (words extent.now) (words phase.now) (words call.now)
     }
+    ensures facts { IfSome result (λ t. IsTail device t.0.1 t.1 t.2) }
 {
     let (name, blocks) = file_line(file)?;
     let extent = extent_line(name, blocks, device.blocks, extent)?;
@@ -76,9 +88,11 @@ fn tail<'a>(device: Device, file: &'a [u8], extent: &[u8], phase: &[u8], call: &
     Some(((name, blocks), extent, asked))
 }
 
-/// All but the data lines, of which there are as many as lines beyond seven.
-fn shape<'a>(lines: &[&'a [u8]]) -> Option<Shape<'a>>
-    ensures { option_map (λ s. (s.0, s.1, (s.2.0.now, s.2.1), s.3, s.4)) result ≡ shape_of (map (λ line. words line.now) lines.now) }
+/// All but the data lines, of which there are as many as lines beyond seven: the file's name, and the
+/// job.
+fn shape<'a>(lines: &[&'a [u8]]) -> Option<(&'a [u8], Job)>
+    ensures value { option_map (λ s. shape_of_job s.0.now s.1) result ≡ shape_of (map (λ line. words line.now) lines.now) }
+    ensures facts { IfSome result (λ s. IsShape s.1.device s.1.geometry s.1.blocks s.1.extent s.1.asked) }
 {
     if lines.len() < 7 {
         return None;
@@ -86,18 +100,24 @@ fn shape<'a>(lines: &[&'a [u8]]) -> Option<Shape<'a>>
     let n = lines.len() - 7;
     let (device, geometry) = head(lines[0], lines[1], lines[2])?;
     let (file, extent, asked) = tail(device, lines[n + 3], lines[n + 4], lines[n + 5], lines[n + 6])?;
-    Some((device, geometry, file, extent, asked))
+    let job = Job {
+        device,
+        geometry,
+        blocks: file.1,
+        extent,
+        asked,
+    };
+    Some((file.0, job))
 }
 
 /// The script that these lines say. Want of memory is the only error.
-fn assemble(alloc: Global, shape: Shape<'_>, blocks: Vec<(u32, Items<u8>)>) -> Result<Script, AllocError>
-    ensures { IfOk result (λ script. script ≡ script_with (shape.entry.0, shape.entry.1, (shape.entry.2.0.now, shape.entry.2.1), shape.entry.3, shape.entry.4) blocks.items) }
+fn assemble(alloc: Global, name: &[u8], job: &Job, blocks: Vec<(u32, Items<u8>)>) -> Result<Script, AllocError>
+    ensures { IfOk result (λ script. script ≡ script_of_job name.now job.now blocks.items) }
 {
-    let (device, geometry, (name, count), extent, asked) = shape;
-    let extents = vec![in alloc; extent]?;
+    let extents = vec![in alloc; job.extent]?;
     let file = FileSpec {
         mode: Mode::Cached,
-        blocks: count,
+        blocks: job.blocks,
         extents: Items::from_vec(extents),
     };
     let call = Call {
@@ -106,14 +126,14 @@ fn assemble(alloc: Global, shape: Shape<'_>, blocks: Vec<(u32, Items<u8>)>) -> R
         file: FileId(0),
         first_page: 0,
         verb: Verb::Pread {
-            off: asked.off,
-            lengths: Items::from_vec(vec![in alloc; asked.length]?),
+            off: job.asked.off,
+            lengths: Items::from_vec(vec![in alloc; job.asked.length]?),
         },
     };
     Ok(Script {
-        geometry,
-        device_blocks: device.blocks,
-        fill: device.fill,
+        geometry: job.geometry,
+        device_blocks: job.device.blocks,
+        fill: job.device.fill,
         blocks: Items::from_vec(blocks),
         names: Items::from_vec(vec![in alloc; Items::from_slice(alloc, name)?]?),
         files: Items::from_vec(vec![in alloc; file]?),
@@ -122,24 +142,29 @@ fn assemble(alloc: Global, shape: Shape<'_>, blocks: Vec<(u32, Items<u8>)>) -> R
     })
 }
 
-/// The script of the kept lines of a text. Want of memory is the only error.
-fn script_from_lines(alloc: Global, lines: &[&[u8]]) -> Result<Option<Script>, AllocError>
-    ensures { IfOk result (λ script. script ≡ script_of_lines (map (λ line. words line.now) lines.now)) }
+/// The script of the kept lines of a text, and its job. Want of memory is the only error.
+fn script_from_lines(alloc: Global, lines: &[&[u8]]) -> Result<Option<(Script, Job)>, AllocError>
+    ensures script { IfOk result (λ r. option_map (λ s. s.0) r ≡ script_of_lines (map (λ line. words line.now) lines.now)) }
+    ensures job { IfOk result (λ r. IfSome r (λ s. IsJobOf s.0 s.1)) }
 {
     let Some(shape) = shape(lines) else {
         return Ok(None);
     };
     let datas = &lines[3..lines.len() - 4];
-    match data_list(alloc, &shape.0, datas)? {
+    match data_list(alloc, shape.1.device, datas)? {
         None => Ok(None),
-        Some(given) => Ok(Some(assemble(alloc, shape, given)?)),
+        Some(given) => {
+            let script = assemble(alloc, shape.0, &shape.1, given)?;
+            Ok(Some((script, shape.1)))
+        }
     }
 }
 
-/// The script of a text of the one form that is read, and `None` for every other text. Want of memory
-/// is the only error.
-pub fn read_script(alloc: Global, text: &[u8]) -> Result<Option<Script>, AllocError>
-    ensures { IfOk result (λ script. script ≡ script_of text.now) }
+/// The script of a text of the one form that is read, with its job, and `None` for every other text.
+/// Want of memory is the only error.
+pub fn read_script(alloc: Global, text: &[u8]) -> Result<Option<(Script, Job)>, AllocError>
+    ensures script { IfOk result (λ r. option_map (λ s. s.0) r ≡ script_of text.now) }
+    ensures job { IfOk result (λ r. IfSome r (λ s. IsJobOf s.0 s.1)) }
 {
     if text.len() > TEXT_LIMIT || !has_end(text) {
         return Ok(None);
