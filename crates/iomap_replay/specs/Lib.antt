@@ -1,3 +1,4 @@
+pub mod Devices
 pub mod Facts
 pub mod Fields
 pub mod Jobs

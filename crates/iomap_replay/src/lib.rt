@@ -2,6 +2,7 @@
 #![tactic(auto)]
 
 mod bytes;
+mod device;
 mod fields;
 mod lines;
 mod numbers;
