@@ -1,3 +1,4 @@
 pub mod Cuts
 pub mod Devices
 pub mod Shapes
+pub mod Written

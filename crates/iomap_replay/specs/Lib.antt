@@ -5,4 +5,5 @@ pub mod Jobs
 pub mod Lines
 pub mod Numbers
 pub mod OnePread
+pub mod Streams
 pub mod Words

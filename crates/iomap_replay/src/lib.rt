@@ -7,4 +7,5 @@ mod fields;
 mod lines;
 mod numbers;
 mod script;
+mod streams;
 mod words;
