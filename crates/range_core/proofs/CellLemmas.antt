@@ -1,4 +1,4 @@
-use Rattle.std.proofs.Common.{◌≡◌, ℕ, zero, suc, ◌+◌, ◌-◌, ◌<◌, ◌≤◌, List, [], ◌∷◌, ◌++◌, length, map, All, append_assoc, arith, refl, sym, ◌∙◌, ap, add-one}
+use Rattle.std.proofs.Common.{◌≡◌, ℕ, zero, suc, ◌+◌, ◌-◌, ◌<◌, List, [], ◌∷◌, ◌++◌, length, map, All, append_assoc, arith, refl, sym, ◌∙◌, ap, subst}
 use Rattle.iob_base.specs.DeviceBlock.{DeviceBlock}
 use Rattle.io_model.specs.Kinds.{kind_at}
 use Rattle.io_model.specs.declared.file.Extent.{Extent}
@@ -20,10 +20,10 @@ cells_of-next extents first i n sectors rest all cells new kind h e k p r =
     let at : first + i + 1 ≡ first + (i + 1) = omega arith in
     let tail : List DeviceBlock → List Cell = λ ss. cells_of (kinds_from extents (first + (i + 1)) (n - (i + 1))) ss in
     let next : cells_of (kinds_from extents (first + i) (n - i)) sectors ≡ cell_of (kind_at extents (first + i)) sectors ∷ tail (sectors_after (kind_at extents (first + i)) sectors) =
-        ap (λ j. cells_of (kinds_from extents (first + i) j) sectors) m
-        ∙ ap (λ j. cell_of (kind_at extents (first + i)) sectors ∷ cells_of (kinds_from extents j (n - (i + 1))) (sectors_after (kind_at extents (first + i)) sectors)) at in
+    ap (λ j. cells_of (kinds_from extents (first + i) j) sectors) m
+    ∙ ap (λ j. cell_of (kind_at extents (first + i)) sectors ∷ cells_of (kinds_from extents j (n - (i + 1))) (sectors_after (kind_at extents (first + i)) sectors)) at in
     let here : cells_of (kinds_from extents (first + i) (n - i)) sectors ≡ cell_of kind sectors ∷ tail rest =
-        next ∙ ap (λ q. cell_of q sectors ∷ tail (sectors_after q sectors)) (sym k) ∙ ap (λ ss. cell_of kind sectors ∷ tail ss) (sym r) in
+    next ∙ ap (λ q. cell_of q sectors ∷ tail (sectors_after q sectors)) (sym k) ∙ ap (λ ss. cell_of kind sectors ∷ tail ss) (sym r) in
     glue all cells new _ _ _ e here p
 
 -- blocks with the sectors of their kinds are at home
@@ -52,3 +52,7 @@ length-kinds_from extents b (suc n) = ap suc (length-kinds_from extents (b + 1) 
 pub length-cells_of : (kinds : List Kind) (sectors : List DeviceBlock) → length (cells_of kinds sectors) ≡ length kinds
 length-cells_of [] sectors = refl
 length-cells_of (kind ∷ kinds) sectors = ap suc (length-cells_of kinds (sectors_after kind sectors))
+
+pub homes_of : (size : ℕ) (kinds : List Kind) (sectors : List DeviceBlock) (cells : List Cell) → cells ≡ cells_of kinds sectors → map (λ s. s.number) sectors ≡ numbers_of kinds → All (λ s. length s.bytes ≡ size) sectors → All (IsHome size) cells
+homes_of size kinds sectors cells are e w =
+    let P : List Cell → Type 0 = λ xs. All (IsHome size) xs in subst P (sym are) (cells_of-home size kinds sectors e w)

@@ -5,7 +5,7 @@ use Rattle.std.proofs.lemmas.List.Edits.{map_over_more}
 use Rattle.std.proofs.lemmas.List.Elements.{All-cons, All-nil}
 use Rattle.iob_base.specs.DeviceBlock.{DeviceBlock}
 use Rattle.iob_base.specs.declared.sector.Page.{Page}
-use Rattle.fault_device.specs.Transfer.{CanTransfer, IsWhole, block_read, parts_read}
+use Rattle.fault_device.specs.Transfer.{CanTransfer, IsWhole, parts_read}
 use Rattle.fault_device.specs.declared.part.Part.{Part}
 use Rattle.io_model.specs.Finals.{sector_bytes}
 use Rattle.range_core.specs.Lending.{AreReady, emptied, pages_filled, parts_at, parts_of, with_sector, with_sectors}
@@ -91,9 +91,9 @@ back-cells cells parts now j k d new x e h l n is p =
     let now_is : now ≡ take (suc j) cells ++ rest = n ∙ ap (λ m. take m cells ++ with_sectors (drop m cells) (drop m parts)) e in
     let here : get_or now j d ≡ get_or cells j d = ap (λ ys. get_or ys j d) now_is ∙ get_or-back cells rest j d in_cells in
     let joined : with_sectors (drop j cells) (drop j parts) ≡ with_sector (get_or cells j d) x ∷ rest =
-        ap (λ ys. with_sectors ys (drop j parts)) (drop-cons cells j d in_cells)
-        ∙ ap (with_sectors (get_or cells j d ∷ drop (suc j) cells)) (drop-cons parts j x in_parts)
-        ∙ ap (λ q. with_sector (get_or cells j d) q ∷ rest) (sym is) in
+    ap (λ ys. with_sectors ys (drop j parts)) (drop-cons cells j d in_cells)
+    ∙ ap (with_sectors (get_or cells j d ∷ drop (suc j) cells)) (drop-cons parts j x in_parts)
+    ∙ ap (λ q. with_sector (get_or cells j d) q ∷ rest) (sym is) in
     ap (set now j) (p ∙ ap (λ c. with_sector c x) here)
     ∙ ap (λ ys. set ys j (with_sector (get_or cells j d) x)) now_is
     ∙ set-back cells rest j _ in_cells
@@ -106,7 +106,7 @@ back-pages pages parts now j k new x e h l n is p =
     let rest : List Page = map (λ q. q.page) (drop (suc j) parts) in
     let now_is : now ≡ take (suc j) pages ++ rest = n ∙ ap (λ m. take m pages ++ map (λ q. q.page) (drop m parts)) e in
     let joined : map (λ q. q.page) (drop j parts) ≡ x.page ∷ rest =
-        ap (map (λ q. q.page)) (drop-cons parts j x in_parts) ∙ ap (λ q. q.page ∷ rest) (sym is) in
+    ap (map (λ q. q.page)) (drop-cons parts j x in_parts) ∙ ap (λ q. q.page ∷ rest) (sym is) in
     ap (set now j) p ∙ ap (λ ys. set ys j x.page) now_is ∙ set-back pages rest j _ in_pages ∙ ap (λ ys. take j pages ++ ys) (sym joined)
 
 -- the part that left a list of the first k was the one before the k-th

@@ -1,5 +1,9 @@
 pub mod Cells
+pub mod Events
 pub mod Kinds
 pub mod Lending
+pub mod Merging
 pub mod Opening
+pub mod RangeView
 pub mod Runs
+pub mod Stamps

@@ -7,7 +7,7 @@ use Rattle.range_core.specs.declared.cell.Cell.{Cell}
 abbrev pub run_from : Kind → ℕ → List Cell → ℕ → ℕ
 run_from kind i [] n = 0
 run_from kind i (c ∷ cells) zero = 0
-run_from kind i (c ∷ cells) (suc n) = if is_kind c.kind (kind_after kind i) then suc (run_from kind (i + 1) cells n) else 0
+run_from kind i (c ∷ cells) (suc n) = if is_kind (kind_after kind i) c.kind then suc (run_from kind (i + 1) cells n) else 0
 
 -- the length of the longest run of one extent at the head of these blocks, of at most n
 abbrev pub run_length : List Cell → ℕ → ℕ

@@ -50,13 +50,13 @@ fn nth_kind(kind: Kind, i: u64) -> Kind
 /// Whether a block of this kind is the i-th of an extent that begins with `first`.
 pub(crate) fn continues(first: Kind, i: u64, kind: Kind) -> bool
     requires { i ≤ 65536 }
-    ensures { result ≡ is_kind kind (kind_after first i) }
+    ensures { result ≡ is_kind (kind_after first i) kind }
 {
     match (kind, first) {
         (Kind::Hole, Kind::Hole) => true,
         (Kind::Delalloc, Kind::Delalloc) => true,
-        (Kind::Unwritten(d), Kind::Unwritten(e)) => u64::from(d) == u64::from(e) + i,
-        (Kind::Mapped(d), Kind::Mapped(e)) => u64::from(d) == u64::from(e) + i,
+        (Kind::Unwritten(d), Kind::Unwritten(e)) => u64::from(e) + i == u64::from(d),
+        (Kind::Mapped(d), Kind::Mapped(e)) => u64::from(e) + i == u64::from(d),
         _ => false,
     }
 }

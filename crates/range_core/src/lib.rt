@@ -4,13 +4,15 @@
 mod cell;
 mod end;
 mod fault;
+mod merge;
 mod open;
 mod range;
 mod run;
+mod stamps;
 mod transfer;
 
 pub use cell::Cell;
-//pub use end::RangeEnd;
+pub use end::RangeEnd;
 pub use fault::EventFault;
 pub use io_model::{BlockEnd, Extent, Kind};
-//pub use range::{Pages, Range};
+pub use range::{Pages, Range};

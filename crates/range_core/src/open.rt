@@ -11,7 +11,13 @@ use std::alloc::{AllocError, Global};
 use std::vec::IntoIter;
 
 /// The blocks that the extents and their sectors make.
-pub(crate) fn build_cells(alloc: Global, extents: &[Extent], first: u64, blocks: u64, sectors: Vec<Sector>) -> Result<Vec<Cell>, AllocError>
+pub(crate) fn build_cells(
+    alloc: Global,
+    extents: &[Extent],
+    first: u64,
+    blocks: u64,
+    sectors: Vec<Sector>,
+) -> Result<Vec<Cell>, AllocError>
     requires numbers { All HasNumbers extents.now }
     requires few { first + blocks ≤ 65536 }
     ensures { IfOk result (λ cells. cells.items ≡ cells_of (kinds_from extents.now first blocks) sectors.items) }

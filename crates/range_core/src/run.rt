@@ -1,12 +1,20 @@
 //! How far a run of blocks goes.
-ghost use Rattle.std.specs.Prelude.{◌≡◌, ◌<◌, ◌≤◌, length};
+ghost use Rattle.std.specs.Prelude.{◌≡◌, ◌<◌, ◌≤◌, drop, length};
 ghost use Rattle.range_core.specs.Runs.{run_from, run_length};
 
 use crate::cell::{Cell, continues};
 use io_model::Kind;
 
-/// The length of the longest run of one extent at the head of `cells`, of at most `most`.
-pub(crate) fn leading_run(cells: &[Cell], most: usize) -> usize
+/// The length of the longest run of one extent from the place `at` on, of at most `most`.
+pub(crate) fn run_at(cells: &[Cell], at: usize, most: usize) -> usize
+    requires few { length cells.now ≤ 65536 }
+    requires within { at ≤ length cells.now }
+    ensures { result ≡ run_length (drop at cells.now) most }
+{
+    leading_run(&cells[at..], most)
+}
+
+fn leading_run(cells: &[Cell], most: usize) -> usize
     requires { length cells.now ≤ 65536 }
     ensures { result ≡ run_length cells.now most }
 {

@@ -1,18 +1,26 @@
 //! How sectors and pages are lent to a lane and come back.
-ghost use Rattle.std.specs.Prelude.{◌≡◌, ◌<◌, ◌≤◌, [], ◌∷◌, List, length, map, IsSome, vec_len, vec_capacity};
+ghost use Rattle.std.specs.Prelude.{◌≡◌, ◌<◌, ◌≤◌, [], ◌∷◌, List, length, map, IsSome, take, drop, ◌+◌, vec_len, vec_capacity};
+ghost use Rattle.arrayvec.specs.ArrayVec.{array_vec_len};
 ghost use Rattle.fault_device.specs.LaneView.{lane_seen};
 ghost use Rattle.fault_device.specs.Opening.{Opening, IsServed, Serves};
 ghost use Rattle.fault_device.specs.Transfer.{CanTransfer, Tells, parts_read};
 ghost use Rattle.range_core.specs.Lending.{AreReady, emptied, pages_filled, parts_at, parts_of, with_sector, with_sectors};
 
 use crate::cell::Cell;
+use arrayvec::ArrayVec;
 use fault_device::{Done, Lane, Part};
 use iob_base::{Items, Page};
 use std::alloc::Global;
 use std::mem;
 
 /// One read of the lane from these blocks to these pages, which all come back to their places.
-pub(crate) fn read_run(cells: &mut [Cell], pages: &mut [Page], parts: &mut Vec<Part>, lane: &mut Lane, alloc: Global) -> Done
+pub(crate) fn read_run(
+    cells: &mut [Cell],
+    pages: &mut [Page],
+    parts: &mut Vec<Part>,
+    lane: &mut Lane,
+    alloc: Global,
+) -> Done
     requires ready { AreReady cells.old pages.old }
     requires some { 0 < length cells.old }
     requires few { length cells.old ≤ 16 }
@@ -93,4 +101,64 @@ fn put_part(cell: &mut Cell, page: &mut Page, part: Part)
     let Part { sector, page: back } = part;
     cell.sector = Some(sector);
     *page = back;
+}
+
+/// `read_run` of the `n` blocks from the place `at` on, to the first `n` pages.
+pub(crate) fn read_block_run(
+    cells: &mut Vec<Cell>,
+    at: usize,
+    n: usize,
+    pages: &mut ArrayVec<Page, 16, Global>,
+    parts: &mut Vec<Part>,
+    lane: &mut Lane,
+) -> Done
+    requires some { 0 < n }
+    requires cells { at + n ≤ vec_len cells.old }
+    requires few { n ≤ 16 }
+    requires pages { n ≤ array_vec_len pages.old }
+    requires ready { AreReady (take n (drop at cells.old.items)) (take n pages.old.items) }
+    requires empty { parts.old.items ≡ [] }
+    requires room { 16 ≤ vec_capacity parts.old }
+    ensures cells { cells.new.items ≡ cells.old.items }
+    ensures pages { pages.new.items ≡ pages_filled result.landed (drop at cells.old.items) pages.old.items }
+    ensures empty { parts.new.items ≡ [] }
+    ensures room { vec_capacity parts.new ≡ vec_capacity parts.old }
+    ensures tells { Tells n (lane_seen count tells lane.old) result (lane_seen count tells lane.new) }
+    ensures serves { (o : Opening) → Serves o (lane_seen count tells lane.old) → IsServed o result (lane_seen count tells lane.new) }
+{
+    let alloc = *pages.allocator();
+    read_first(
+        &mut cells[at..],
+        pages.as_mut_slice(),
+        n,
+        parts,
+        lane,
+        alloc,
+    )
+}
+
+/// `read_run` of the first `n` blocks, to the first `n` pages.
+fn read_first(
+    cells: &mut [Cell],
+    pages: &mut [Page],
+    n: usize,
+    parts: &mut Vec<Part>,
+    lane: &mut Lane,
+    alloc: Global,
+) -> Done
+    requires some { 0 < n }
+    requires few { n ≤ 16 }
+    requires cells { n ≤ length cells.old }
+    requires pages { n ≤ length pages.old }
+    requires ready { AreReady (take n cells.old) (take n pages.old) }
+    requires empty { parts.old.items ≡ [] }
+    requires room { 16 ≤ vec_capacity parts.old }
+    ensures cells { cells.new ≡ cells.old }
+    ensures pages { pages.new ≡ pages_filled result.landed cells.old pages.old }
+    ensures empty { parts.new.items ≡ [] }
+    ensures room { vec_capacity parts.new ≡ vec_capacity parts.old }
+    ensures tells { Tells n (lane_seen count tells lane.old) result (lane_seen count tells lane.new) }
+    ensures serves { (o : Opening) → Serves o (lane_seen count tells lane.old) → IsServed o result (lane_seen count tells lane.new) }
+{
+    read_run(&mut cells[..n], &mut pages[..n], parts, lane, alloc)
 }

@@ -1,3 +1,4 @@
+use Rattle.std.proofs.Common.{◌++◌, ◌∷◌, [], ◌∙◌, ap}
 use Rattle.range_core.proofs.CellLemmas.{cells_of-next}
 use Rattle.range_core.proofs.open.build_cells.Goals as goal
 

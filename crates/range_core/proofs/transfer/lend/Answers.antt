@@ -1,4 +1,4 @@
-use Rattle.std.proofs.Common.{◌≡◌, ◌<◌, length, get_or, ap, sym, ◌∙◌, subst, arith, take, IsSome, map, drop, ◌++◌}
+use Rattle.std.proofs.Common.{◌≡◌, ◌<◌, length, get_or, ap, sym, ◌∙◌, subst, arith, take, IsSome}
 use Rattle.std.proofs.Math.Seq.{take-length}
 use Rattle.range_core.specs.Lending.{emptied, parts_of, parts_at}
 use Rattle.range_core.specs.declared.cell.Cell.{Cell}
@@ -20,14 +20,15 @@ loop-i-preserved c =
     let in_pages : c.loop-i.i < length c.args.pages.now = omega (arith, ready-length c.args.cells.now c.args.pages.now c.requires.ready) in
     let in_now : c.loop-i.i < length c.loop-i.pages = omega arith in
     let cell = ap (λ l. get_or l c.loop-i.i c.index-cells-i.result) c.loop-i.invariant.0 ∙ get_or-rest emptied c.args.cells.now c.loop-i.i c.index-cells-i.result in_cells in
-    let page = get_or-same c.loop-i.pages c.args.pages.now c.loop-i.i c.index-pages-i.result c.loop-i.invariant.1 in_now in_pages in
-    (lent-cells c.loop-i.cells c.args.cells.now c.loop-i.i c.index-cells-i.result _ in_cells c.loop-i.invariant.0 c.index-cells-i.is c.take_part-part.ensures.cell,
-    lent-pages c.loop-i.pages c.args.pages.now c.loop-i.i c.index-pages-i.result _ c.loop-i.invariant.1 in_now in_pages,
-    lent-parts c.args.cells.now c.loop-i.pages c.args.pages.now _ _ c.loop-i.i c.index-cells-i.result c.index-pages-i.result _ in_cells in_pages c.loop-i.invariant.2
-      (c.take_part-part.ensures.part ∙ ap (λ x. parts_at x.sector (get_or c.loop-i.pages c.loop-i.i c.index-pages-i.result)) cell ∙ ap (parts_at (get_or c.args.cells.now c.loop-i.i c.index-cells-i.result).sector) page)
-      c.push_reserved.ensures.items,
-    omega arith,
-    c.push_reserved.ensures.capacity ∙ c.loop-i.invariant.4)
+    let page = get_or-same c.loop-i.pages c.args.pages.now c.loop-i.i c.index-pages-i.result c.loop-i.invariant.1 in_now in_pages in (
+      lent-cells c.loop-i.cells c.args.cells.now c.loop-i.i c.index-cells-i.result _ in_cells c.loop-i.invariant.0 c.index-cells-i.is c.take_part-part.ensures.cell,
+      lent-pages c.loop-i.pages c.args.pages.now c.loop-i.i c.index-pages-i.result _ c.loop-i.invariant.1 in_now in_pages,
+      lent-parts c.args.cells.now c.loop-i.pages c.args.pages.now _ _ c.loop-i.i c.index-cells-i.result c.index-pages-i.result _ in_cells in_pages c.loop-i.invariant.2
+          (c.take_part-part.ensures.part ∙ ap (λ x. parts_at x.sector (get_or c.loop-i.pages c.loop-i.i c.index-pages-i.result)) cell ∙ ap (parts_at (get_or c.args.cells.now c.loop-i.i c.index-cells-i.result).sector) page)
+          c.push_reserved.ensures.items,
+      omega arith,
+      c.push_reserved.ensures.capacity ∙ c.loop-i.invariant.4,
+    )
 
 pub returns-clause-parts : goal.returns-clause-parts
 returns-clause-parts c =

@@ -1,4 +1,4 @@
-use Rattle.std.proofs.Common.{◌≡◌, ℕ, List, length, map, arith, sym, ◌∙◌, ap, subst}
+use Rattle.std.proofs.Common.{◌≡◌, List, length, map, arith, sym, ◌∙◌, ap, subst}
 use Rattle.std.proofs.lemmas.List.{length-map}
 use Rattle.fault_device.specs.Transfer.{CanTransfer, parts_read}
 use Rattle.fault_device.specs.declared.part.Part.{Part}
@@ -19,8 +19,11 @@ give_back-requires-clause-cells g c =
 
 pub give_back-requires-clause-pages : goal.give_back-requires-clause-pages
 give_back-requires-clause-pages g c =
-    omega (arith, ready-length c.args.cells.now c.args.pages.now c.requires.ready,
-      moved_length c.args.cells.now c.args.pages.now c.requires.ready c.lend.new.parts.items c.move_parts-done.new.parts.items c.move_parts-done.result.landed c.lend.ensures.parts c.move_parts-done.ensures.parts)
+    omega (
+      arith,
+      ready-length c.args.cells.now c.args.pages.now c.requires.ready,
+      moved_length c.args.cells.now c.args.pages.now c.requires.ready c.lend.new.parts.items c.move_parts-done.new.parts.items c.move_parts-done.result.landed c.lend.ensures.parts c.move_parts-done.ensures.parts,
+    )
 
 pub returns-clause-cells : goal.returns-clause-cells
 returns-clause-cells g c =
@@ -38,5 +41,5 @@ returns-clause-pages g c =
 pub returns-clause-tells : goal.returns-clause-tells
 returns-clause-tells g c =
     let as_many : length c.args.cells.now ≡ length c.lend.new.parts.items =
-        sym (ap length c.lend.ensures.parts ∙ length-parts_of c.args.cells.now c.args.pages.now c.requires.ready) in
+    sym (ap length c.lend.ensures.parts ∙ length-parts_of c.args.cells.now c.args.pages.now c.requires.ready) in
     rw as_many c.move_parts-done.ensures.tells
