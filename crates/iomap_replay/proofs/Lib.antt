@@ -1,4 +1,8 @@
 pub mod Cuts
 pub mod Devices
+pub mod OneContents
+pub mod OneRead
 pub mod Shapes
+pub mod Spans
+pub mod Tables
 pub mod Written

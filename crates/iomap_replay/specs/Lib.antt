@@ -5,5 +5,6 @@ pub mod Jobs
 pub mod Lines
 pub mod Numbers
 pub mod OnePread
+pub mod Runs
 pub mod Streams
 pub mod Words
