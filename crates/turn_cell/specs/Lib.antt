@@ -1,0 +1,5 @@
+pub mod Stakes
+pub mod Laws
+pub mod Views
+pub mod Rule
+pub mod Steps
