@@ -34,11 +34,11 @@ module _ {T C E : Type 0} where
   abbrev pub share_of : View T C E → ℕ
   share_of v = v.share
 
--- What the rule says of one seat: what it has seen begins the history, without a share it claims nothing and made nothing, and while its turn runs it has the value and has seen all
+-- What the rule says of one seat: what it has seen begins the history, without a share it claims nothing, made nothing and has no turn, and while its turn runs it has the value and has seen all
 pub record Fits {T C E : Type 0} (history : List E) (value : T) (v : View T C E) : Type 0 where
   pub seen : Begins v.seen history
   pub told : Begins v.told history
-  pub spent : v.share ≡ 0 → (v.claims ≡ None) × (v.made ≡ [])
+  pub spent : v.share ≡ 0 → (v.claims ≡ None) × (v.made ≡ []) × (v.held ≡ None)
   pub held : (x : T) → v.held ≡ Some x → (x ≡ value) × (v.seen ≡ history)
 
 -- Some seat with a share has seen the whole history

@@ -9,9 +9,11 @@ mod cell;
 mod chronicle;
 mod plays;
 mod seat;
+mod turn;
 mod view;
 
 pub use cell::{NoCell, Opening, TurnCell, Turns};
 pub use chronicle::{Change, Chronicle, Cut};
 pub use seat::TurnSeat;
+pub use turn::Busy;
 pub use view::View;
