@@ -3,5 +3,6 @@ pub mod Beginnings
 mod Fitting
 mod Gate
 mod Leaving
+mod Turning
 mod Parting
 mod Ending
