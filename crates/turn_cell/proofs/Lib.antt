@@ -5,4 +5,5 @@ mod Gate
 mod Leaving
 mod Turning
 mod Parting
+mod Looking
 mod Ending

@@ -5,13 +5,13 @@ use mathlib.Core.Option.{some, none, some-injective}
 use mathlib.Core.Logic.{dite}
 use native.Mathlib.Decide.{ℕ_discrete}
 use lib.ListN.{get_elem?}
-use Rattle.atomic_table.specs.Table.{State, Splits, Joins}
+use Rattle.atomic_table.specs.Table.{State, Me, Splits, Joins}
 use Rattle.atomic_table.proofs.Lists.{at_map, at_set, at_snoc, at_longer, set_else}
 use Rattle.turn_cell.specs.declared.view.View.{View}
 use Rattle.turn_cell.specs.Stakes.{Stake, total, tally, Begins, Once}
 use Rattle.turn_cell.specs.Laws.{Stands, KeepsCut, KeepsMerge}
 use Rattle.turn_cell.specs.Rule.{turning, at_home, stake_of, stakes_of, turn_of, share_of, Fits, IsKnown, Ruled}
-use Rattle.turn_cell.specs.Steps.{IsIdle, kept_view, new_view, joined_view, spent_view}
+use Rattle.turn_cell.specs.Steps.{IsIdle, kept_view, new_view, joined_view, spent_view, looked_view}
 use Rattle.turn_cell.proofs.Sums.{total-append, total-set, map-append}
 use Rattle.turn_cell.proofs.Beginnings.{begins-none, begins-longer, begins-of_shorter, longer-first, longer-second}
 use Rattle.turn_cell.proofs.Fitting.{set-there, not-held, fits-set, known-set, stakes-set, turns-set, shares-set}
@@ -133,3 +133,18 @@ module _ {T C E : Type 0} (truth : T → T → List E → List (Stake C E) → T
                   let is : k.view ≡ w = some-injective k.view w (sym k.here ∙ ap (get_elem? views) e ∙ there) in
                   record { number = id; view = a; here = here; share = share; all = seen ∙ longer-second v.seen w.seen h begins (ap (λ (u : View T C E). u.seen) (sym is) ∙ k.all) })
               (λ ne'. record { number = k.number; view = k.view; here = set_else (set views id a) other k.number b ne' ∙ set_else views id k.number a ne ∙ k.here; share = k.share; all = k.all }))
+
+module _ {T C E : Type 0} where
+  pub idle-view : (me : Me (Option T) (View T C E)) (claims : C) → IsIdle me claims → IsIdle (me.0, []) claims
+  idle-view me claims idle = record { slots = refl; held = idle.held; told = idle.told; claims_are = idle.claims_are; share = idle.share }
+
+  pub idle-kept : (me : Me (Option T) (View T C E)) (claims kept : C) (share : ℕ) → IsIdle me claims → share < me.0.share → IsIdle (kept_view share (Some kept) me.0, me.1) kept
+  idle-kept me claims kept share idle less = record { slots = idle.slots; held = idle.held; told = idle.told; claims_are = refl; share = omega arith }
+
+  pub idle-new : (v : View T C E) (given : C) (share : ℕ) → 0 < share → IsIdle (new_view share (Some given) v, []) given
+  idle-new v given share some_part = record { slots = refl; held = refl; told = refl; claims_are = refl; share = some_part }
+
+  -- after the look a seat that took in another is idle again
+  pub idle-joined : (me other : Me (Option T) (View T C E)) (mine theirs both : C) → IsIdle me mine → IsIdle other theirs → IsIdle (looked_view (joined_view (Some both) me.0 other.0), []) both
+  idle-joined me other mine theirs both idle idle' =
+      record { slots = refl; held = idle.held; told = refl; claims_are = refl; share = (let a = idle.share in omega arith) }

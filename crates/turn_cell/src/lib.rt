@@ -7,6 +7,7 @@
 
 mod cell;
 mod chronicle;
+mod parts;
 mod plays;
 mod seat;
 mod turn;

@@ -1,5 +1,5 @@
 //! A caller's place at a cell.
-ghost use Rattle.std.specs.Prelude.{◌≡◌};
+ghost use Rattle.std.specs.Prelude.{◌≡◌, Option};
 ghost use Rattle.turn_cell.specs.Steps.{IsIdle};
 
 use crate::chronicle::Chronicle;
@@ -22,6 +22,15 @@ pub struct TurnSeat<T: Chronicle> {
     pub(crate) place: Place<T>,
     pub(crate) claims: T::Claims,
     pub ghost idle: { IsIdle place.me claims },
+}
+
+impl<T: Chronicle> TurnSeat<T> {
+    pub(crate) fn into_parts(self) -> (Place<T>, T::Claims)
+        ensures { (result.0 ≡ self.place) × (result.1 ≡ self.claims) × IsIdle result.0.me result.1 }
+    {
+        let Self { place, claims } = self;
+        (place, claims)
+    }
 }
 
 /// A seat that is dropped keeps its share and its claims for good, so its cell cannot be closed any more.
