@@ -39,9 +39,9 @@ module _ {T C E : Type 0} where
   known-set h views id v w at k keeps =
       dite (ℕ_discrete k.number id)
       (λ e.
-          let is : k.view ≡ v = some-injective k.view v (sym k.here ∙ ap (get_elem? views) e ∙ at) in
-          let now = keeps (subst (λ (u : View T C E). 0 < u.share) is k.share) (ap (λ (u : View T C E). u.seen) (sym is) ∙ k.all) in
-          record { number = id; view = w; here = set-there views id v w at; share = now.0; all = now.1 })
+      let is : k.view ≡ v = some-injective k.view v (sym k.here ∙ ap (get_elem? views) e ∙ at) in
+      let now = keeps (subst (λ (u : View T C E). 0 < u.share) is k.share) (ap (λ (u : View T C E). u.seen) (sym is) ∙ k.all) in
+      record { number = id; view = w; here = set-there views id v w at; share = now.0; all = now.1 })
       (λ ne. record { number = k.number; view = k.view; here = set_else views id k.number w ne ∙ k.here; share = k.share; all = k.all })
 
   pub stakes-set : (views : List (View T C E)) (id : ℕ) (w : View T C E) → stakes_of (set views id w) ≡ set (stakes_of views) id (stake_of w)

@@ -120,4 +120,4 @@ module _ {T C E : Type 0} (truth : T → T → List E → List (Stake C E) → T
   tries id me claims idle =
       let slots : me ≡ (me.0, []) = ap (λ (c : List (ℕ × Option T)). (me.0, c)) idle.slots in
       subst (λ (m : Me (Option T) (View T C E)). Allows (Ruled truth opening) 1 id m 0 (λ n. either (n == 0) 1 n) (Tried truth opening id claims m.0)) (sym slots)
-          (tries-idle id me.0 claims (subst (λ (m : Me (Option T) (View T C E)). IsIdle m claims) slots idle))
+      (tries-idle id me.0 claims (subst (λ (m : Me (Option T) (View T C E)). IsIdle m claims) slots idle))

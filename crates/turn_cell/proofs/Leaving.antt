@@ -43,7 +43,7 @@ module _ {T C E : Type 0} (truth : T → T → List E → List (Stake C E) → T
       let value_is : value ≡ r.value = (fit.held value turn.held).0 in
       let seen_is : v.seen ≡ r.history = (fit.held value turn.held).1 in
       let stands : Stands truth opening value r.history (stakes_of s.views) id claims v.made =
-          subst (λ (x : T). Stands truth opening x r.history (stakes_of s.views) id claims v.made) (sym value_is) (stands-here truth opening s r id v claims at turn.claims_are) in
+      subst (λ (x : T). Stands truth opening x r.history (stakes_of s.views) id claims v.made) (sym value_is) (stands-here truth opening s r id v claims at turn.claims_are) in
       let began : Standing truth ready value claims = record {
         opening = opening;
         seen = seen;
@@ -84,14 +84,14 @@ module _ {T C E : Type 0} (truth : T → T → List E → List (Stake C E) → T
                 held = λ x e. absurd (not-held e);
               })
               (λ j u apart there.
-                  let f = r.fits j u there in
-                  let idle : turning u.held ≡ 0 = total-sole turn_of s.views id j v u at (omega arith) apart there in
-                  record {
-                    seen = begins-then u.seen r.history history f.seen (begins-more r.history (entry ∷ []));
-                    told = begins-then u.told r.history history f.told (begins-more r.history (entry ∷ []));
-                    spent = f.spent;
-                    held = λ x e. absurd (let on' : turning u.held ≡ 1 = ap turning e in omega arith);
-                  });
+              let f = r.fits j u there in
+              let idle : turning u.held ≡ 0 = total-sole turn_of s.views id j v u at (omega arith) apart there in
+              record {
+                seen = begins-then u.seen r.history history f.seen (begins-more r.history (entry ∷ []));
+                told = begins-then u.told r.history history f.told (begins-more r.history (entry ∷ []));
+                spent = f.spent;
+                held = λ x e. absurd (let on' : turning u.held ≡ 1 = ap turning e in omega arith);
+              });
           known = record { number = id; view = w; here = set-there s.views id v w at; share = turn.share; all = seen_now };
           once = subst (λ stakes. Once history stakes) (sym new_stakes) once;
           holds = subst (truth opening next history) (sym new_stakes) moved.holds;

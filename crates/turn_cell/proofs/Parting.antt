@@ -52,13 +52,13 @@ module _ {T C E : Type 0} (truth : T → T → List E → List (Stake C E) → T
       let fit = r.fits id v at in
       let stands = stands-here truth opening s r id v claims at idle.claims_are in
       let turns : total turn_of (views ++ b ∷ []) ≡ total turn_of s.views =
-          let t : total turn_of views + turning v.held ≡ total turn_of s.views + turning v.held = turns-set s.views id v a at in
-          let u : total turn_of (views ++ b ∷ []) ≡ total turn_of views + (0 + 0) = total-append turn_of views (b ∷ []) in omega arith in
+      let t : total turn_of views + turning v.held ≡ total turn_of s.views + turning v.held = turns-set s.views id v a at in
+      let u : total turn_of (views ++ b ∷ []) ≡ total turn_of views + (0 + 0) = total-append turn_of views (b ∷ []) in omega arith in
       let shares : total share_of (views ++ b ∷ []) ≡ total share_of s.views =
-          let t : total share_of views + v.share ≡ total share_of s.views + (v.share - share) = shares-set s.views id v a at in
-          let u : total share_of (views ++ b ∷ []) ≡ total share_of views + (share + 0) = total-append share_of views (b ∷ []) in omega arith in
+      let t : total share_of views + v.share ≡ total share_of s.views + (v.share - share) = shares-set s.views id v a at in
+      let u : total share_of (views ++ b ∷ []) ≡ total share_of views + (share + 0) = total-append share_of views (b ∷ []) in omega arith in
       let stakes : stakes_of (views ++ b ∷ []) ≡ set (stakes_of s.views) id (Some kept, v.made) ++ (Some given, []) ∷ [] =
-          map-append stake_of views (b ∷ []) ∙ ap (λ l. l ++ (Some given, []) ∷ []) (stakes-set s.views id a) in
+      map-append stake_of views (b ∷ []) ∙ ap (λ l. l ++ (Some given, []) ∷ []) (stakes-set s.views id a) in
       let known = known-set r.history s.views id v a at r.known (λ _ all. ((omega arith), all)) in
       let a_fits : Fits r.history r.value a = record { seen = fit.seen; told = fit.told; spent = λ z. absurd (omega arith); held = fit.held } in
       let b_fits : Fits r.history r.value b = record { seen = fit.seen; told = begins-none r.history; spent = λ z. absurd (omega arith); held = λ x e. absurd (not-held e) } in
@@ -92,14 +92,14 @@ module _ {T C E : Type 0} (truth : T → T → List E → List (Stake C E) → T
       let stands = stands-here truth opening s r id v mine at idle.claims_are in
       let stands' = stands-here truth opening s r other w theirs there idle'.claims_are in
       let turns : total turn_of views ≡ total turn_of s.views =
-          let t : total turn_of first + turning v.held ≡ total turn_of s.views + turning v.held = turns-set s.views id v a at in
-          let u : total turn_of views + turning w.held ≡ total turn_of first + 0 = turns-set first other w b after in
-          let z : turning w.held ≡ 0 = ap turning idle'.held in omega arith in
+      let t : total turn_of first + turning v.held ≡ total turn_of s.views + turning v.held = turns-set s.views id v a at in
+      let u : total turn_of views + turning w.held ≡ total turn_of first + 0 = turns-set first other w b after in
+      let z : turning w.held ≡ 0 = ap turning idle'.held in omega arith in
       let shares : total share_of views ≡ total share_of s.views =
-          let t : total share_of first + v.share ≡ total share_of s.views + (v.share + w.share) = shares-set s.views id v a at in
-          let u : total share_of views + w.share ≡ total share_of first + 0 = shares-set first other w b after in omega arith in
+      let t : total share_of first + v.share ≡ total share_of s.views + (v.share + w.share) = shares-set s.views id v a at in
+      let u : total share_of views + w.share ≡ total share_of first + 0 = shares-set first other w b after in omega arith in
       let stakes : stakes_of views ≡ set (set (stakes_of s.views) id (Some both, v.made ++ w.made)) other (None, []) =
-          stakes-set first other b ∙ ap (λ l. set l other (None, [])) (stakes-set s.views id a) in
+      stakes-set first other b ∙ ap (λ l. set l other (None, [])) (stakes-set s.views id a) in
       let a_fits : Fits r.history r.value a = record {
         seen = begins-longer v.seen w.seen r.history fit.seen fit'.seen;
         told = begins-of_shorter v.seen w.seen r.history fit.seen fit'.seen;
@@ -126,13 +126,13 @@ module _ {T C E : Type 0} (truth : T → T → List E → List (Stake C E) → T
           let here : get_elem? (set (set views id a) other b) id ≡ some a = set_else (set views id a) other id b (λ e. apart (sym e)) ∙ set-there views id v a at in
           dite (ℕ_discrete k.number id)
           (λ e.
-              let is : k.view ≡ v = some-injective k.view v (sym k.here ∙ ap (get_elem? views) e ∙ at) in
-              record { number = id; view = a; here = here; share = share; all = seen ∙ longer-first v.seen w.seen h begins' (ap (λ (u : View T C E). u.seen) (sym is) ∙ k.all) })
+          let is : k.view ≡ v = some-injective k.view v (sym k.here ∙ ap (get_elem? views) e ∙ at) in
+          record { number = id; view = a; here = here; share = share; all = seen ∙ longer-first v.seen w.seen h begins' (ap (λ (u : View T C E). u.seen) (sym is) ∙ k.all) })
           (λ ne. dite (ℕ_discrete k.number other)
-              (λ e.
-                  let is : k.view ≡ w = some-injective k.view w (sym k.here ∙ ap (get_elem? views) e ∙ there) in
-                  record { number = id; view = a; here = here; share = share; all = seen ∙ longer-second v.seen w.seen h begins (ap (λ (u : View T C E). u.seen) (sym is) ∙ k.all) })
-              (λ ne'. record { number = k.number; view = k.view; here = set_else (set views id a) other k.number b ne' ∙ set_else views id k.number a ne ∙ k.here; share = k.share; all = k.all }))
+          (λ e.
+          let is : k.view ≡ w = some-injective k.view w (sym k.here ∙ ap (get_elem? views) e ∙ there) in
+          record { number = id; view = a; here = here; share = share; all = seen ∙ longer-second v.seen w.seen h begins (ap (λ (u : View T C E). u.seen) (sym is) ∙ k.all) })
+          (λ ne'. record { number = k.number; view = k.view; here = set_else (set views id a) other k.number b ne' ∙ set_else views id k.number a ne ∙ k.here; share = k.share; all = k.all }))
 
 module _ {T C E : Type 0} where
   pub idle-view : (me : Me (Option T) (View T C E)) (claims : C) → IsIdle me claims → IsIdle (me.0, []) claims

@@ -15,16 +15,33 @@ pub struct Opening<T, C> {
     pub claims: Snapshot<C>,
 }
 
+impl<T, C> Opening<T, C> {
+    pub(crate) fn of(value: &T, claims: &C) -> Opening<T, C>
+        ensures { (result.value.value ≡ value.now) × (result.claims.value ≡ claims.now) }
+    {
+        Opening {
+            value: Snapshot::of(value),
+            claims: Snapshot::of(claims),
+        }
+    }
+}
+
+impl<T, C> Drop for Opening<T, C> {
+    fn drop(self) {
+        let Self {
+            value: _,
+            claims: _,
+        } = self;
+    }
+}
+
 /// The rule of a cell's table.
 pub struct Turns<T> {
     marker: PhantomData<T>,
 }
 
-impl<T: Chronicle> TableRule<
-    Option<T>,
-    View<T, T::Claims, T::Entry>,
-    Opening<T, T::Claims>,
-> for Turns<T> {
+impl<T: Chronicle> TableRule<Option<T>, View<T, T::Claims, T::Entry>, Opening<T, T::Claims>>
+    for Turns<T> {
     ghost use Rattle.turn_cell.specs.Rule.{Ruled};
     ghost use Rattle.turn_cell.specs.Steps.{first_view};
 
@@ -50,6 +67,16 @@ pub(crate) type Lay<T> = Table<
 pub struct TurnCell<T: Chronicle> {
     pub(crate) table: Lay<T>,
     pub ghost sized: { (table.shared.table_id.words ≡ 1) × (table.shared.table_id.slots ≡ 1) },
+}
+
+impl<T: Chronicle> TurnCell<T> {
+    pub(crate) fn into_table(self) -> Lay<T>
+        ensures table { result ≡ self.table }
+        ensures sized { (result.shared.table_id.words ≡ 1) × (result.shared.table_id.slots ≡ 1) }
+    {
+        let Self { table } = self;
+        table
+    }
 }
 
 /// There was no memory. The value and the claims come back.

@@ -7,6 +7,7 @@
 
 mod cell;
 mod chronicle;
+mod life;
 mod parts;
 mod plays;
 mod seat;

@@ -55,12 +55,7 @@ impl<T: Chronicle> TurnCell<T> {
     }
 
     /// Cuts a seat in two. The new seat has this share and what the cut takes of the claims. It has seen as much, and made nothing.
-    pub fn split<C: Cut<T>>(
-        &self,
-        seat: &mut TurnSeat<T>,
-        share: u64,
-        cut: &mut C,
-    ) -> TurnSeat<T>
+    pub fn split<C: Cut<T>>(&self, seat: &mut TurnSeat<T>, share: u64, cut: &mut C) -> TurnSeat<T>
         requires cell { IsSeatOf self.now seat.old }
         requires some { 1 ≤ share }
         requires less { share < (seat_view seat.old).share }

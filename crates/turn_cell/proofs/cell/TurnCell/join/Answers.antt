@@ -13,7 +13,7 @@ join_place-requires-clause-step g c =
     let place = c.into_parts-place.result.0 in
     let claims = c.into_parts-place.result.1 in
     joins g.T.Chronicle.truth c.args.self.now.table.shared.key.value.value into.place.id place.id into.place.me.0 place.me.0 into.claims claims c.merge.new.into
-        (idle-view into.place.me into.claims into.idle) (idle-view place.me claims c.into_parts-place.ensures.2) c.merge.ensures.truth
+    (idle-view into.place.me into.claims into.idle) (idle-view place.me claims c.into_parts-place.ensures.2) c.merge.ensures.truth
 
 pub look-requires-clause-step : goal.look-requires-clause-step
 look-requires-clause-step g c =

@@ -49,7 +49,7 @@ apply-out-requires g c =
     let truth = g.T.Chronicle.truth in
     let ready = g.C.Change.ready c.args.change.now in
     subst (λ x. Standing truth ready x c.args.claims.now) (sym value)
-        (standing-won truth c.args.self.now.table.shared.key.value.value ready c.args.place.now.id c.args.claims.now c.args.place.now.me.0 c.try_gate-word.new.place.me won c.requires.ready)
+    (standing-won truth c.args.self.now.table.shared.key.value.value ready c.args.place.now.id c.args.claims.now c.args.place.now.me.0 c.try_gate-word.new.place.me won c.requires.ready)
 
 pub leave-requires-clause-slot : goal.leave-requires-clause-slot
 leave-requires-clause-slot g c =
@@ -72,15 +72,15 @@ leave-requires-clause-step g c =
     let out = c.apply-out.result in
     let view_is = ap (λ me. me.0) c.exchange.ensures.3 ∙ ap (λ me. me.0) won.me_is in
     let turn : IsTurning c.args.place.now.me.0.seen claims c.unwrap-value.result view =
-        subst (IsTurning c.args.place.now.me.0.seen claims c.unwrap-value.result) (sym view_is) (record { held = ap Some (sym value); claims_are = c.requires.idle.claims_are; share = c.requires.idle.share; begins = won.begins }) in
+    subst (IsTurning c.args.place.now.me.0.seen claims c.unwrap-value.result) (sym view_is) (record { held = ap Some (sym value); claims_are = c.requires.idle.claims_are; share = c.requires.idle.share; begins = won.begins }) in
     let b = c.of-began.ensures in
     let began = c.of-began.result in
     let P : g.row.T.Denot × g.row.T-Claims.Denot × g.row.C.Denot → Type 0 = λ p.
-        Allows (Ruled truth opening) 1 id (view, (0, Some after.value) ∷ []) 0 (λ _. 0)
-        (λ _ me. Left truth (λ o h e. does p.2 o h p.0 p.1 after.self after.value after.claims out e) opening id p.1 p.0 after.claims after.value view me) in
+    Allows (Ruled truth opening) 1 id (view, (0, Some after.value) ∷ []) 0 (λ _. 0)
+    (λ _ me. Left truth (λ o h e. does p.2 o h p.0 p.1 after.self after.value after.claims out e) opening id p.1 p.0 after.claims after.value view me) in
     subst P (λ i. (sym b.0 i, sym b.1 i, sym b.2 i))
-        (leaves truth opening (g.C.Change.ready before) (λ o h e. does before o h c.unwrap-value.result claims after.self after.value after.claims out e) id c.args.place.now.me.0.seen claims
-            c.unwrap-value.result view after.claims after.value turn c.requires.ready c.apply-out.ensures)
+    (leaves truth opening (g.C.Change.ready before) (λ o h e. does before o h c.unwrap-value.result claims after.self after.value after.claims out e) id c.args.place.now.me.0.seen claims
+    c.unwrap-value.result view after.claims after.value turn c.requires.ready c.apply-out.ensures)
 
 pub returns-clause-idle : goal.returns-clause-idle
 returns-clause-idle g c =
@@ -88,7 +88,7 @@ returns-clause-idle g c =
     let view_is = ap (λ me. me.0) c.exchange.ensures.3 ∙ ap (λ me. me.0) won.me_is in
     let left = c.leave.ensures.step.1 in
     subst (λ me. IsIdle me c.apply-out.new.claims) (sym left.me_is)
-        (idle-left c.exchange.new.seat.me.0 left.entry c.apply-out.new.claims (ap (λ v. v.told) view_is ∙ c.requires.idle.told) (subst (λ n. 0 < n) (sym (ap (λ v. v.share) view_is)) c.requires.idle.share))
+    (idle-left c.exchange.new.seat.me.0 left.entry c.apply-out.new.claims (ap (λ v. v.told) view_is ∙ c.requires.idle.told) (subst (λ n. 0 < n) (sym (ap (λ v. v.share) view_is)) c.requires.idle.share))
 
 pub returns-clause-same : goal.returns-clause-same
 returns-clause-same g c =
@@ -111,7 +111,7 @@ returns-clause-turned g c =
     let b = c.of-began.ensures in
     let left = c.leave.ensures.step.1 in
     let P : g.row.T.Denot × g.row.T-Claims.Denot × g.row.C.Denot → Type 0 = λ p.
-        Left truth (λ o h e. does p.2 o h p.0 p.1 after.self after.value after.claims out e) opening id p.1 p.0 after.claims after.value view c.leave.new.place.me in
+    Left truth (λ o h e. does p.2 o h p.0 p.1 after.self after.value after.claims out e) opening id p.1 p.0 after.claims after.value view c.leave.new.place.me in
     let left' : P (c.unwrap-value.result, c.args.claims.now, c.args.change.now) = subst P (λ i. (b.0 i, b.1 i, b.2 i)) left in (
       turned-left truth opening (λ o h x y e. does c.args.change.now o h x c.args.claims.now after.self y after.claims out e) id c.args.claims.now after.claims c.unwrap-value.result after.value
           (place_view c.args.place.now) (place_view c.leave.new.place) won.begins.0 view c.leave.new.place.me

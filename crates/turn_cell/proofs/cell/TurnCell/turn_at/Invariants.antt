@@ -9,5 +9,5 @@ ghosts-leave g a = record {
   fact = λ m n w.
       Left g.T.Chronicle.truth
       (λ opening history entry. g.C.Change.does a.began.now.change.value opening history a.began.now.value.value a.began.now.claims.value a.change.now a.value a.claims.now a.out.now entry)
-      a.self.now.table.shared.key.value.value a.place.now.id a.began.now.claims.value a.began.now.value.value a.claims.now a.value m.0 w
+      a.self.now.table.shared.key.value.value a.place.now.id a.began.now.claims.value a.began.now.value.value a.claims.now a.value m.0 w;
 }
