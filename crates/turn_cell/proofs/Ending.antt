@@ -1,15 +1,15 @@
 -- How a cell starts, and what is left at its end.
-use Rattle.std.proofs.Common.{◌≡◌, ◌≢◌, ℕ, zero, suc, ◌+◌, ◌<◌, ◌≤◌, ◌^◌, List, [], ◌∷◌, length, map, Option, Some, None, refl, sym, ap, ◌∙◌, subst, arith}
+use Rattle.std.proofs.Common.{◌≡◌, ◌≢◌, ℕ, zero, suc, List, [], ◌∷◌, Option, Some, None, refl, sym, ap, ◌∙◌, subst, arith}
 use mathlib.Core.Option.{some, some-injective, some-ne-none}
 use mathlib.Core.Logic.{dite}
 use native.Mathlib.Decide.{ℕ_discrete}
 use lib.ListN.{get_elem?}
-use Rattle.atomic_table.specs.Table.{State, opening as opened, Final, Seen}
+use Rattle.atomic_table.specs.Table.{opening as opened, Final, Seen}
 use Rattle.atomic_table.specs.declared.shared.Seat.{Seat}
 use Rattle.turn_cell.specs.declared.view.View.{View}
-use Rattle.turn_cell.specs.Stakes.{Stake, total, tally, Begins, Once}
+use Rattle.turn_cell.specs.Stakes.{Stake, total}
 use Rattle.turn_cell.specs.Laws.{Stands}
-use Rattle.turn_cell.specs.Rule.{turning, at_home, stake_of, stakes_of, turn_of, share_of, whole_share, Fits, IsKnown, Ruled}
+use Rattle.turn_cell.specs.Rule.{turning, at_home, stake_of, stakes_of, turn_of, share_of, whole_share, Fits, Ruled}
 use Rattle.turn_cell.specs.Seats.{place_view}
 use Rattle.turn_cell.specs.Steps.{IsIdle, first_view}
 use Rattle.turn_cell.specs.Views.{Closed}

@@ -1,12 +1,12 @@
 -- What stays of the rule where one seat's view changes.
-use Rattle.std.proofs.Common.{◌≡◌, ◌≢◌, ◌⊎◌, inl, inr, ℕ, zero, suc, ◌+◌, ◌<◌, ◌≤◌, List, [], ◌∷◌, ◌++◌, map, set, Option, Some, None, refl, sym, ap, ◌∙◌, subst, ⊎_elim, arith}
+use Rattle.std.proofs.Common.{◌≡◌, ◌≢◌, ℕ, zero, suc, ◌+◌, ◌<◌, List, [], ◌∷◌, map, set, Some, None, refl, sym, ap, ◌∙◌, subst, ⊎_elim}
 use mathlib.Core.Option.{some, some-injective, some-ne-none}
 use mathlib.Core.Logic.{dite}
 use native.Mathlib.Decide.{ℕ_discrete}
 use lib.ListN.{get_elem?}
 use Rattle.atomic_table.proofs.Lists.{at_set, at_map, set_else, set_again}
 use Rattle.turn_cell.specs.declared.view.View.{View}
-use Rattle.turn_cell.specs.Stakes.{Stake, total, Once}
+use Rattle.turn_cell.specs.Stakes.{total}
 use Rattle.turn_cell.specs.Rule.{turning, stake_of, stakes_of, turn_of, share_of, Fits, IsKnown}
 use Rattle.turn_cell.proofs.Sums.{total-set, map-set}
 

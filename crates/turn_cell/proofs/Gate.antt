@@ -1,18 +1,18 @@
 -- A compare and exchange at the gate wins it, or finds it held.
-use Rattle.std.proofs.Common.{◌≡◌, ◌≢◌, ℕ, zero, suc, ◌+◌, ◌<◌, ◌≤◌, ◌^◌, eqb, List, [], ◌∷◌, ◌++◌, length, set, Option, Some, None, refl, sym, ap, ◌∙◌, subst, eq-eqb, ne_eqb, arith}
+use Rattle.std.proofs.Common.{◌≡◌, ◌≢◌, ℕ, ◌+◌, eqb, List, [], ◌∷◌, set, Option, Some, refl, sym, ap, ◌∙◌, subst, eq-eqb, ne_eqb, arith}
 use Rattle.std.specs.Prelude.{slice_index, slice_set, ◌==◌}
 use mathlib.Core.Option.{some, none}
 use mathlib.Core.Logic.{dite}
 use native.Mathlib.Decide.{ℕ_discrete}
 use prog.Atomic.{either}
 use lib.ListN.{get_elem?}
-use Rattle.atomic_table.specs.Table.{State, Me, Act, keeps, takes, gives, Allows, stepped, Valid, carried_after, homes_after}
+use Rattle.atomic_table.specs.Table.{State, Me, Act, keeps, takes, Allows, stepped, Valid, carried_after}
 use Rattle.atomic_table.proofs.Lists.{at_map}
 use Rattle.turn_cell.specs.declared.view.View.{View}
-use Rattle.turn_cell.specs.Stakes.{Stake, total, Begins, Once}
+use Rattle.turn_cell.specs.Stakes.{Stake, total, Once}
 use Rattle.turn_cell.specs.Laws.{Stands}
-use Rattle.turn_cell.specs.Rule.{turning, at_home, stake_of, stakes_of, turn_of, share_of, whole_share, Fits, IsKnown, Ruled}
-use Rattle.turn_cell.specs.Steps.{IsIdle, Won, Tried, won_view, refused_view}
+use Rattle.turn_cell.specs.Rule.{turning, at_home, stake_of, stakes_of, turn_of, share_of, Ruled}
+use Rattle.turn_cell.specs.Steps.{IsIdle, Tried, won_view, refused_view}
 use Rattle.turn_cell.proofs.Beginnings.{begins-self}
 use Rattle.turn_cell.proofs.Fitting.{set-there, fits-set, known-set, stakes-same, turns-set, shares-set}
 

@@ -1,14 +1,13 @@
 -- The swap that frees the gate makes one entry, and keeps the rule.
-use Rattle.std.proofs.Common.{◌≡◌, ◌≢◌, ℕ, zero, suc, ◌+◌, ◌<◌, ◌≤◌, List, [], ◌∷◌, ◌++◌, length, set, Option, Some, None, refl, sym, ap, ◌∙◌, subst, arith}
-use Rattle.std.specs.Prelude.{slice_index, slice_set}
-use mathlib.Core.Option.{some, none}
+use Rattle.std.proofs.Common.{◌≡◌, ℕ, ◌+◌, ◌<◌, ◌≤◌, List, [], ◌∷◌, ◌++◌, set, Option, Some, refl, sym, ap, ◌∙◌, subst, arith}
+use Rattle.std.specs.Prelude.{slice_set}
+use mathlib.Core.Option.{some}
 use lib.ListN.{get_elem?}
-use Rattle.atomic_table.specs.Table.{State, Me, Act, gives, Allows}
-use Rattle.atomic_table.proofs.Lists.{at_map}
+use Rattle.atomic_table.specs.Table.{gives, Allows}
 use Rattle.turn_cell.specs.declared.view.View.{View}
-use Rattle.turn_cell.specs.Stakes.{Stake, total, tally, Begins, Once}
+use Rattle.turn_cell.specs.Stakes.{Stake, total, Begins, Once}
 use Rattle.turn_cell.specs.Laws.{Stands, Standing, Advanced, KeepsTurn}
-use Rattle.turn_cell.specs.Rule.{turning, at_home, stake_of, stakes_of, turn_of, share_of, Fits, IsKnown, Ruled}
+use Rattle.turn_cell.specs.Rule.{turning, at_home, stakes_of, turn_of, share_of, Ruled}
 use Rattle.turn_cell.specs.Steps.{Left, left_view}
 use Rattle.turn_cell.proofs.Sums.{total-append, total-set, total-at, total-sole}
 use Rattle.turn_cell.proofs.Beginnings.{begins-self, begins-more, begins-then}

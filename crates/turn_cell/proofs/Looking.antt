@@ -1,11 +1,9 @@
 -- A look at the gate compares what a joined seat had seen with what this seat has seen, and keeps the rule.
-use Rattle.std.proofs.Common.{◌≡◌, ℕ, ◌+◌, ◌<◌, ◌≤◌, List, [], ◌∷◌, length, set, Option, Some, None, refl, sym, ap, ◌∙◌, subst, arith}
+use Rattle.std.proofs.Common.{◌≡◌, ℕ, ◌+◌, List, [], ◌∷◌, set, Option, refl, sym, ap, ◌∙◌, subst, arith}
 use Rattle.std.specs.Prelude.{slice_index}
-use mathlib.Core.Option.{some}
-use lib.ListN.{get_elem?}
 use Rattle.atomic_table.specs.Table.{Me, keeps, Allows}
 use Rattle.turn_cell.specs.declared.view.View.{View}
-use Rattle.turn_cell.specs.Stakes.{Stake, total, Begins, Once}
+use Rattle.turn_cell.specs.Stakes.{Stake, total, Once}
 use Rattle.turn_cell.specs.Rule.{turning, at_home, stakes_of, turn_of, share_of, Ruled}
 use Rattle.turn_cell.specs.Steps.{Looked, looked_view}
 use Rattle.turn_cell.proofs.Beginnings.{begins-none, begins-shorter}

@@ -1,15 +1,14 @@
 -- A seat is cut in two, or takes in another, and the rule stays.
-use Rattle.std.proofs.Common.{◌≡◌, ◌≢◌, ◌⊎◌, inl, inr, ℕ, zero, suc, ◌+◌, ◌-◌, ◌<◌, ◌≤◌, Bool, true, false, List, [], ◌∷◌, ◌++◌, map, length, set, Option, Some, None, refl, sym, ap, ◌∙◌, subst, ⊎_elim, arith}
-use Rattle.std.specs.Prelude.{slice_set}
-use mathlib.Core.Option.{some, none, some-injective}
+use Rattle.std.proofs.Common.{◌≡◌, ℕ, ◌+◌, ◌-◌, ◌<◌, List, [], ◌∷◌, ◌++◌, set, Option, Some, None, refl, sym, ap, ◌∙◌, subst, ⊎_elim, arith}
+use mathlib.Core.Option.{some, some-injective}
 use mathlib.Core.Logic.{dite}
 use native.Mathlib.Decide.{ℕ_discrete}
 use lib.ListN.{get_elem?}
-use Rattle.atomic_table.specs.Table.{State, Me, Splits, Joins}
-use Rattle.atomic_table.proofs.Lists.{at_map, at_set, at_snoc, at_longer, set_else}
+use Rattle.atomic_table.specs.Table.{Me, Splits, Joins}
+use Rattle.atomic_table.proofs.Lists.{at_snoc, at_longer, set_else}
 use Rattle.turn_cell.specs.declared.view.View.{View}
-use Rattle.turn_cell.specs.Stakes.{Stake, total, tally, Begins, Once}
-use Rattle.turn_cell.specs.Laws.{Stands, KeepsCut, KeepsMerge}
+use Rattle.turn_cell.specs.Stakes.{Stake, total, Begins, Once}
+use Rattle.turn_cell.specs.Laws.{KeepsCut, KeepsMerge}
 use Rattle.turn_cell.specs.Rule.{turning, at_home, stake_of, stakes_of, turn_of, share_of, Fits, IsKnown, Ruled}
 use Rattle.turn_cell.specs.Steps.{IsIdle, kept_view, new_view, joined_view, spent_view, looked_view}
 use Rattle.turn_cell.proofs.Sums.{total-append, total-set, map-append}

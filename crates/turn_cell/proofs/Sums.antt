@@ -1,9 +1,8 @@
 -- Sums of weights over a list, and over what seats made.
-use Rattle.std.proofs.Common.{◌≡◌, ◌≢◌, ℕ, zero, suc, ◌+◌, ◌<◌, ◌≤◌, List, [], ◌∷◌, ◌++◌, map, set, Option, Some, None, refl, sym, ap, ◌∙◌, ⊎_elim, arith}
+use Rattle.std.proofs.Common.{◌≡◌, ◌≢◌, ℕ, zero, suc, ◌+◌, ◌≤◌, List, [], ◌∷◌, ◌++◌, map, length, set, refl, sym, ap, arith}
 use mathlib.Core.Option.{some, some-injective, some-ne-none}
 use lib.ListN.{get_elem?}
-use Rattle.atomic_table.proofs.Lists.{at_set, at_snoc}
-use Rattle.turn_cell.specs.Stakes.{Stake, total, tally}
+use Rattle.turn_cell.specs.Stakes.{total}
 
 module _ {A : Type 0} (f : A → ℕ) where
   -- two lists one after the other weigh what both weigh
@@ -62,3 +61,8 @@ module _ {A B : Type 0} where
   pub map-append : (g : A → B) (xs ys : List A) → map g (xs ++ ys) ≡ map g xs ++ map g ys
   map-append g [] ys = refl
   map-append g (x ∷ xs) ys = ap (λ zs. g x ∷ zs) (map-append g xs ys)
+
+-- where each item weighs one, all weigh their number
+pub total-count : {A : Type 0} (xs : List A) → total (λ _. 1) xs ≡ length xs
+total-count [] = refl
+total-count (x ∷ xs) = omega (arith, total-count xs)

@@ -1,10 +1,10 @@
 -- What the steps of one turn come to.
-use Rattle.std.proofs.Common.{◌≡◌, ℕ, ◌<◌, List, [], ◌∷◌, ◌++◌, set, Option, Some, None, refl, sym, ap, ◌∙◌, subst}
+use Rattle.std.proofs.Common.{◌≡◌, ℕ, ◌<◌, List, [], ◌∷◌, ◌++◌, set, Option, Some, refl, sym, ap, ◌∙◌, subst}
 use Rattle.atomic_table.specs.Table.{Me, rest}
 use Rattle.turn_cell.specs.declared.view.View.{View}
 use Rattle.turn_cell.specs.Stakes.{Stake}
 use Rattle.turn_cell.specs.Laws.{Stands, Standing}
-use Rattle.turn_cell.specs.Steps.{IsIdle, Won, Left, won_view, refused_view, left_view}
+use Rattle.turn_cell.specs.Steps.{IsIdle, Won, Left, refused_view, left_view}
 use Rattle.turn_cell.specs.Views.{SeatView, Turned}
 
 pub some-same : {T : Type 0} (x y : T) → Some x ≡ Some y → x ≡ y

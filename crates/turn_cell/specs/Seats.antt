@@ -20,6 +20,10 @@ module _ {T C E : Type 0} where
     abbrev pub seat_view : TurnSeat T C E g → SeatView E
     seat_view s = place_view s.place
 
+    -- what the seat claims
+    abbrev pub seat_claims : TurnSeat T C E g → C
+    seat_claims s = s.claims
+
     -- the seat is of this cell
     abbrev pub IsSeatOf : TurnCell T C E → TurnSeat T C E g → Type 0
     IsSeatOf c s = (seat_view s).cell ≡ (cell_view c).cell

@@ -1,6 +1,6 @@
 //! How a cell is made, and how it ends.
 ghost use Rattle.std.specs.Prelude.{◌≡◌, ◌^◌, [], ◌∷◌, Some, IfOk, IfErr};
-ghost use Rattle.turn_cell.specs.Seats.{cell_view, seat_view, IsSeatOf};
+ghost use Rattle.turn_cell.specs.Seats.{cell_view, seat_view, seat_claims, IsSeatOf};
 ghost use Rattle.turn_cell.specs.Views.{first_seat, Closed};
 
 use crate::cell::{NoCell, Opening, TurnCell};
@@ -35,7 +35,7 @@ impl<T: Chronicle> TurnCell<T> {
         requires { T.truth value value [] ((Some claims, []) ∷ []) }
         ensures cell { IfOk result (λ r. (cell_view r.0).opening ≡ value) }
         ensures seat { IfOk result (λ r. seat_view r.1 ≡ first_seat (cell_view r.0).cell (2 ^ 63)) }
-        ensures claims { IfOk result (λ r. r.1.claims ≡ claims) }
+        ensures claims { IfOk result (λ r. seat_claims r.1 ≡ claims) }
         ensures err { IfErr result (λ e. (e.value ≡ value) × (e.claims ≡ claims)) }
     {
         let opening = Opening::of(&value, &claims);
@@ -62,7 +62,7 @@ impl<T: Chronicle> TurnCell<T> {
     pub fn close(self, seat: TurnSeat<T>) -> T
         requires cell { IsSeatOf self seat }
         requires whole { (seat_view seat).share ≡ 2 ^ 63 }
-        ensures { Closed T.truth (cell_view self).opening result (seat_view seat) seat.claims }
+        ensures { Closed T.truth (cell_view self).opening result (seat_view seat) (seat_claims seat) }
     {
         let (place, claims) = seat.into_parts();
         drop(claims);

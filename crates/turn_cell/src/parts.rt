@@ -2,7 +2,7 @@
 ghost use Rattle.std.specs.Prelude.{◌≡◌, ◌<◌, ◌≤◌, ℕ, [], Some, length};
 ghost use Rattle.atomic_table.specs.Table.{Allows, Splits, Joins};
 ghost use Rattle.turn_cell.specs.Rule.{Ruled};
-ghost use Rattle.turn_cell.specs.Seats.{cell_view, seat_view, place_view, IsSeatOf};
+ghost use Rattle.turn_cell.specs.Seats.{cell_view, seat_view, seat_claims, place_view, IsSeatOf};
 ghost use Rattle.turn_cell.specs.Stakes.{Begins};
 ghost use Rattle.turn_cell.specs.Steps.{IsIdle, kept_view, new_view, joined_view, spent_view};
 ghost use Rattle.turn_cell.specs.Views.{kept_part, new_part, joined};
@@ -59,10 +59,10 @@ impl<T: Chronicle> TurnCell<T> {
         requires cell { IsSeatOf self.now seat.old }
         requires some { 1 ≤ share }
         requires less { share < (seat_view seat.old).share }
-        requires cut { C.may_cut cut.old seat.old.claims }
+        requires cut { C.may_cut cut.old (seat_claims seat.old) }
         ensures kept { seat_view seat.new ≡ kept_part (seat_view seat.old) share }
         ensures given { seat_view result ≡ new_part (seat_view seat.old) share }
-        ensures claims { C.cuts cut.old seat.old.claims cut.new seat.new.claims result.claims }
+        ensures claims { C.cuts cut.old (seat_claims seat.old) cut.new (seat_claims seat.new) (seat_claims result) }
     {
         let claims = cut.cut(&mut seat.claims);
         let place = self.split_place::<Brand>(&mut seat.place, share, &seat.claims, &claims);
@@ -73,10 +73,10 @@ impl<T: Chronicle> TurnCell<T> {
     /// the shares of both, and their claims as the chronicle merges them.
     pub fn join(&self, into: &mut TurnSeat<T>, from: TurnSeat<T>)
         requires cell { IsSeatOf self.now into.old × IsSeatOf self.now from }
-        requires merge { T.may_merge into.old.claims from.claims }
+        requires merge { T.may_merge (seat_claims into.old) (seat_claims from) }
         ensures seat { seat_view into.new ≡ joined (seat_view into.old) (seat_view from) }
         ensures begins { Begins (seat_view into.old).seen (seat_view into.new).seen × Begins (seat_view from).seen (seat_view into.new).seen }
-        ensures claims { T.merges into.old.claims from.claims into.new.claims }
+        ensures claims { T.merges (seat_claims into.old) (seat_claims from) (seat_claims into.new) }
     {
         let (place, claims) = from.into_parts();
         T::merge(&mut into.claims, claims);

@@ -1,10 +1,10 @@
 //! One turn: win the gate, change the value, free the gate.
-ghost use Rattle.std.specs.Prelude.{◌≡◌, ◌≢◌, ℕ, List, [], ◌∷◌, ◌++◌, ◌==◌, Some, None, IfOk, IfErr};
+ghost use Rattle.std.specs.Prelude.{◌≡◌, ◌≢◌, ℕ, List, [], ◌∷◌, ◌++◌, ◌==◌, Some, None, IfOk, IfErr, OnOk};
 ghost use prog.Atomic.{either};
 ghost use Rattle.atomic_table.specs.Table.{Allows};
 ghost use Rattle.turn_cell.specs.Laws.{KeepsTurn};
 ghost use Rattle.turn_cell.specs.Rule.{Ruled};
-ghost use Rattle.turn_cell.specs.Seats.{cell_view, seat_view, place_view, IsSeatOf};
+ghost use Rattle.turn_cell.specs.Seats.{cell_view, seat_view, seat_claims, place_view, IsSeatOf};
 ghost use Rattle.turn_cell.specs.Steps.{IsIdle, Won};
 ghost use Rattle.turn_cell.specs.Stakes.{Begins};
 ghost use Rattle.turn_cell.specs.Views.{Turned, refused_once};
@@ -28,6 +28,7 @@ const GATE: usize = 0;
 const SLOT: usize = 0;
 
 /// The gate was held. The change, the claims, what the seat has seen and its share are as before.
+#[derive(Drop)]
 pub struct Busy {
     /// The word that the seat's compare and exchange found at the gate.
     pub word: u64,
@@ -113,7 +114,8 @@ impl<T: Chronicle> TurnCell<T> {
         requires ready { C.ready change.old (cell_view self.now).opening (place_view place.old).seen claims.old }
         ensures idle { IsIdle place.new.me claims.new }
         ensures same { ((place_view place.new).cell ≡ (place_view place.old).cell) × ((place_view place.new).share ≡ (place_view place.old).share) }
-        ensures turned { IfOk result (λ out. Turned T.truth (λ history value next entry. C.does change.old (cell_view self.now).opening history value claims.old change.new next claims.new out entry) (cell_view self.now).opening claims.old claims.new (place_view place.old) (place_view place.new) × ((place_view place.new).refused ≡ (place_view place.old).refused)) }
+        ensures turned { IfOk result (λ out. Turned T.truth (λ history value next entry. C.does change.old (cell_view self.now).opening history value claims.old change.new next claims.new out entry) (cell_view self.now).opening claims.old claims.new (place_view place.old) (place_view place.new)) }
+        ensures free { OnOk result ((place_view place.new).refused ≡ (place_view place.old).refused) }
         ensures refused { IfErr result (λ busy. (busy.word ≢ 0) × (place_view place.new ≡ refused_once (place_view place.old) busy.word) × (claims.new ≡ claims.old) × (change.new ≡ change.old)) }
     {
         let word = self.try_gate::<Brand>(place, claims);
@@ -141,10 +143,11 @@ impl<T: Chronicle> TurnCell<T> {
         change: &mut C,
     ) -> Result<C::Out, Busy>
         requires cell { IsSeatOf self.now seat.old }
-        requires ready { C.ready change.old (cell_view self.now).opening (seat_view seat.old).seen seat.old.claims }
+        requires ready { C.ready change.old (cell_view self.now).opening (seat_view seat.old).seen (seat_claims seat.old) }
         ensures same { ((seat_view seat.new).cell ≡ (seat_view seat.old).cell) × ((seat_view seat.new).share ≡ (seat_view seat.old).share) }
-        ensures turned { IfOk result (λ out. Turned T.truth (λ history value next entry. C.does change.old (cell_view self.now).opening history value seat.old.claims change.new next seat.new.claims out entry) (cell_view self.now).opening seat.old.claims seat.new.claims (seat_view seat.old) (seat_view seat.new) × ((seat_view seat.new).refused ≡ (seat_view seat.old).refused)) }
-        ensures refused { IfErr result (λ busy. (busy.word ≢ 0) × (seat_view seat.new ≡ refused_once (seat_view seat.old) busy.word) × (seat.new.claims ≡ seat.old.claims) × (change.new ≡ change.old)) }
+        ensures turned { IfOk result (λ out. Turned T.truth (λ history value next entry. C.does change.old (cell_view self.now).opening history value (seat_claims seat.old) change.new next (seat_claims seat.new) out entry) (cell_view self.now).opening (seat_claims seat.old) (seat_claims seat.new) (seat_view seat.old) (seat_view seat.new)) }
+        ensures free { OnOk result ((seat_view seat.new).refused ≡ (seat_view seat.old).refused) }
+        ensures refused { IfErr result (λ busy. (busy.word ≢ 0) × (seat_view seat.new ≡ refused_once (seat_view seat.old) busy.word) × (seat_claims seat.new ≡ seat_claims seat.old) × (change.new ≡ change.old)) }
     {
         self.turn_at(&mut seat.place, &mut seat.claims, change)
     }
@@ -160,9 +163,9 @@ impl<T: Chronicle> TurnCell<T> {
         change: &mut C,
     ) -> C::Out
         requires cell { IsSeatOf self.now seat.old }
-        requires ready { C.ready change.old (cell_view self.now).opening (seat_view seat.old).seen seat.old.claims }
+        requires ready { C.ready change.old (cell_view self.now).opening (seat_view seat.old).seen (seat_claims seat.old) }
         ensures same { ((seat_view seat.new).cell ≡ (seat_view seat.old).cell) × ((seat_view seat.new).share ≡ (seat_view seat.old).share) }
-        ensures turned { Turned T.truth (λ history value next entry. C.does change.old (cell_view self.now).opening history value seat.old.claims change.new next seat.new.claims result entry) (cell_view self.now).opening seat.old.claims seat.new.claims (seat_view seat.old) (seat_view seat.new) }
+        ensures turned { Turned T.truth (λ history value next entry. C.does change.old (cell_view self.now).opening history value (seat_claims seat.old) change.new next (seat_claims seat.new) result entry) (cell_view self.now).opening (seat_claims seat.old) (seat_claims seat.new) (seat_view seat.old) (seat_view seat.new) }
         ensures refused { Begins (seat_view seat.old).refused (seat_view seat.new).refused }
     {
         for _ in rt.forever() {

@@ -1,9 +1,9 @@
-use Rattle.std.proofs.Common.{◌≡◌, Option, Some, refl, sym, ap, ◌∙◌, subst}
+use Rattle.std.proofs.Common.{◌≡◌, Some, refl, sym, ap, ◌∙◌, subst}
 use Rattle.std.specs.Option.{IsSome}
 use mathlib.Core.Option.{some-injective}
 use Rattle.turn_cell.specs.Seats.{place_view}
 use Rattle.turn_cell.specs.Views.{Closed}
-use Rattle.turn_cell.proofs.Ending.{IsSole, ends}
+use Rattle.turn_cell.proofs.Ending.{ends}
 use Rattle.turn_cell.proofs.Turning.{some-same}
 use Rattle.turn_cell.proofs.cell.TurnCell.close.Goals as goal
 

@@ -1,4 +1,4 @@
-use Rattle.std.proofs.Common.{◌≡◌, ◌<◌, ◌≤◌, length, [], Some, sym, ap, ◌∙◌, subst, arith}
+use Rattle.std.proofs.Common.{◌≤◌, length, [], Some, sym, ap, ◌∙◌, subst}
 use Rattle.turn_cell.specs.Stakes.{Begins}
 use Rattle.turn_cell.specs.Views.{longer}
 use Rattle.turn_cell.specs.Steps.{IsIdle, shorter, joined_view, looked_view}

@@ -1,6 +1,6 @@
-use Rattle.std.proofs.Common.{◌≡◌, ◌<◌, sym, ap, ◌∙◌, subst, arith}
+use Rattle.std.proofs.Common.{sym, subst}
 use Rattle.turn_cell.specs.Steps.{IsIdle}
-use Rattle.turn_cell.proofs.Parting.{splits, idle-view, idle-kept, idle-new}
+use Rattle.turn_cell.proofs.Parting.{splits, idle-view, idle-kept}
 use Rattle.turn_cell.proofs.cell.TurnCell.split.Goals as goal
 
 pub split_place-place-requires-clause-step : goal.split_place-place-requires-clause-step

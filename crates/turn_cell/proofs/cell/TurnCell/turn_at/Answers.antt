@@ -112,9 +112,13 @@ returns-clause-turned g c =
     let left = c.leave.ensures.step.1 in
     let P : g.row.T.Denot × g.row.T-Claims.Denot × g.row.C.Denot → Type 0 = λ p.
     Left truth (λ o h e. does p.2 o h p.0 p.1 after.self after.value after.claims out e) opening id p.1 p.0 after.claims after.value view c.leave.new.place.me in
-    let left' : P (c.unwrap-value.result, c.args.claims.now, c.args.change.now) = subst P (λ i. (b.0 i, b.1 i, b.2 i)) left in (
-      turned-left truth opening (λ o h x y e. does c.args.change.now o h x c.args.claims.now after.self y after.claims out e) id c.args.claims.now after.claims c.unwrap-value.result after.value
-          (place_view c.args.place.now) (place_view c.leave.new.place) won.begins.0 view c.leave.new.place.me
-          (won.begins.1 ∙ sym (ap (λ v. v.seen) view_is)) (ap (λ v. v.made) view_is) left' refl refl,
-      ap (λ me. me.0.refused) left.me_is ∙ ap (λ v. v.refused) view_is,
-    )
+    let left' : P (c.unwrap-value.result, c.args.claims.now, c.args.change.now) = subst P (λ i. (b.0 i, b.1 i, b.2 i)) left in
+    turned-left truth opening (λ o h x y e. does c.args.change.now o h x c.args.claims.now after.self y after.claims out e) id c.args.claims.now after.claims c.unwrap-value.result after.value
+    (place_view c.args.place.now) (place_view c.leave.new.place) won.begins.0 view c.leave.new.place.me
+    (won.begins.1 ∙ sym (ap (λ v. v.seen) view_is)) (ap (λ v. v.made) view_is) left' refl refl
+
+pub returns-clause-free : goal.returns-clause-free
+returns-clause-free g c =
+    let won = c.try_gate-word.ensures.step.won c.if-word-ne-FREE.false in
+    let view_is = ap (λ me. me.0) c.exchange.ensures.3 ∙ ap (λ me. me.0) won.me_is in
+    ap (λ me. me.0.refused) c.leave.ensures.step.1.me_is ∙ ap (λ v. v.refused) view_is
