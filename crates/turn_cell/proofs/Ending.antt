@@ -15,7 +15,8 @@ use Rattle.turn_cell.specs.Steps.{IsIdle, first_view}
 use Rattle.turn_cell.specs.Views.{Closed}
 use Rattle.turn_cell.proofs.Sums.{total-sole, total-alone}
 use Rattle.turn_cell.proofs.Beginnings.{begins-none}
-use Rattle.turn_cell.proofs.Fitting.{not-held, map-there}
+use Rattle.turn_cell.proofs.Fitting.{not-held}
+use Rattle.turn_cell.proofs.Stakes.{map-there, tally-alone}
 use Rattle.turn_cell.proofs.Gate.{stands-here}
 
 module _ {T C E : Type 0} where
@@ -76,6 +77,6 @@ module _ {T C E : Type 0} (truth : T → T → List E → List (Stake C E) → T
           alone = alone;
           once = λ f.
               ap (total f) known ∙ r.once f
-              ∙ total-alone (λ (t : Stake C E). total f t.1) stakes id (Some claims, v.made) stands.here (λ j t apart there. ap (λ (x : Stake C E). total f x.1) (alone j t apart there));
+              ∙ tally-alone f stakes id (Some claims) v.made stands.here alone;
         };
       }

@@ -8,18 +8,8 @@ use Rattle.atomic_table.proofs.Lists.{at_set, at_map, set_else, set_again}
 use Rattle.turn_cell.specs.declared.view.View.{View}
 use Rattle.turn_cell.specs.Stakes.{total}
 use Rattle.turn_cell.specs.Rule.{turning, stake_of, stakes_of, turn_of, share_of, Fits, IsKnown}
+use Rattle.turn_cell.proofs.Stakes.{set-there}
 use Rattle.turn_cell.proofs.Sums.{total-set, map-set}
-
-module _ {A : Type 0} where
-  pub set-there : (xs : List A) (i : ℕ) (a b : A) → get_elem? xs i ≡ some a → get_elem? (set xs i b) i ≡ some b
-  set-there [] i a b at = absurd (some-ne-none a (sym at))
-  set-there (x ∷ xs) zero a b at = refl
-  set-there (x ∷ xs) (suc i) a b at = set-there xs i a b at
-
-  pub map-there : {B : Type 0} (g : A → B) (xs : List A) (i : ℕ) (b : B) → get_elem? (map g xs) i ≡ some b → (a : A) × (get_elem? xs i ≡ some a) × (g a ≡ b)
-  map-there g [] i b at = absurd (some-ne-none b (sym at))
-  map-there g (x ∷ xs) zero b at = (x, refl, some-injective (g x) b at)
-  map-there g (x ∷ xs) (suc i) b at = map-there g xs i b at
 
 -- nothing is held where nothing is
 pub not-held : {T : Type 0} {x : T} → None ≡ Some x → ⊥

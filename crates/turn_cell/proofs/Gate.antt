@@ -14,7 +14,8 @@ use Rattle.turn_cell.specs.Laws.{Stands}
 use Rattle.turn_cell.specs.Rule.{turning, at_home, stake_of, stakes_of, turn_of, share_of, Ruled}
 use Rattle.turn_cell.specs.Steps.{IsIdle, Tried, won_view, refused_view}
 use Rattle.turn_cell.proofs.Beginnings.{begins-self}
-use Rattle.turn_cell.proofs.Fitting.{set-there, fits-set, known-set, stakes-same, turns-set, shares-set}
+use Rattle.turn_cell.proofs.Stakes.{set-there}
+use Rattle.turn_cell.proofs.Fitting.{fits-set, known-set, stakes-same, turns-set, shares-set}
 
 either-hit : (n m : ℕ) → n ≡ 0 → either (eqb n 0) m n ≡ m
 either-hit n m e = ap (λ b. either b m n) (eq-eqb n 0 e)

@@ -9,9 +9,10 @@ use Rattle.turn_cell.specs.Stakes.{Stake, total, Begins, Once}
 use Rattle.turn_cell.specs.Laws.{Stands, Standing, Advanced, KeepsTurn}
 use Rattle.turn_cell.specs.Rule.{turning, at_home, stakes_of, turn_of, share_of, Ruled}
 use Rattle.turn_cell.specs.Steps.{Left, left_view}
-use Rattle.turn_cell.proofs.Sums.{total-append, total-set, total-at, total-sole}
+use Rattle.turn_cell.proofs.Stakes.{set-there, once-more}
+use Rattle.turn_cell.proofs.Sums.{total-at, total-sole}
 use Rattle.turn_cell.proofs.Beginnings.{begins-self, begins-more, begins-then}
-use Rattle.turn_cell.proofs.Fitting.{set-there, not-held, fits-set, stakes-set, turns-set, shares-set}
+use Rattle.turn_cell.proofs.Fitting.{not-held, fits-set, stakes-set, turns-set, shares-set}
 use Rattle.turn_cell.proofs.Gate.{words-set, stands-here}
 
 -- What the seat of the turn knows as it frees the gate
@@ -20,17 +21,6 @@ pub record IsTurning {T C E : Type 0} (seen : List E) (claims : C) (value : T) (
   pub claims_are : v.claims ≡ Some claims
   pub share : 0 < v.share
   pub begins : Begins seen v.seen
-
-module _ {C E : Type 0} where
-  -- one entry more in the history and in what one seat made
-  pub once-more : (history : List E) (stakes : List (Stake C E)) (id : ℕ) (entry : E) (claims left : Option C) (made : List E) → Once history stakes → get_elem? stakes id ≡ some (claims, made)
-      → Once (history ++ entry ∷ []) (set stakes id (left, made ++ entry ∷ []))
-  once-more history stakes id entry claims left made once at f =
-      let t : total (λ (s : Stake C E). total f s.1) (set stakes id (left, made ++ entry ∷ [])) + total f made ≡ total (λ (s : Stake C E). total f s.1) stakes + total f (made ++ entry ∷ []) = total-set (λ (s : Stake C E). total f s.1) stakes id (claims, made) (left, made ++ entry ∷ []) at in
-      let o : total f history ≡ total (λ (s : Stake C E). total f s.1) stakes = once f in
-      let p = total-append f made (entry ∷ []) in
-      let q = total-append f history (entry ∷ []) in
-      omega arith
 
 module _ {T C E : Type 0} (truth : T → T → List E → List (Stake C E) → Type 0) (opening : T) (ready : T → List E → C → Type 0) (does : T → List E → E → Type 0) where
   -- whatever the table is, the seat whose turn runs may free the gate, and one entry is made as the change did

@@ -1,5 +1,7 @@
 pub mod Sums
 pub mod Beginnings
+pub mod Stakes
+pub mod AfterTurns
 mod Fitting
 mod Gate
 mod Leaving

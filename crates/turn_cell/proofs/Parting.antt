@@ -11,34 +11,11 @@ use Rattle.turn_cell.specs.Stakes.{Stake, total, Begins, Once}
 use Rattle.turn_cell.specs.Laws.{KeepsCut, KeepsMerge}
 use Rattle.turn_cell.specs.Rule.{turning, at_home, stake_of, stakes_of, turn_of, share_of, Fits, IsKnown, Ruled}
 use Rattle.turn_cell.specs.Steps.{IsIdle, kept_view, new_view, joined_view, spent_view, looked_view}
-use Rattle.turn_cell.proofs.Sums.{total-append, total-set, map-append}
+use Rattle.turn_cell.proofs.Stakes.{set-there, once-cut, once-merge}
+use Rattle.turn_cell.proofs.Sums.{total-append, map-append}
 use Rattle.turn_cell.proofs.Beginnings.{begins-none, begins-longer, begins-of_shorter, longer-first, longer-second}
-use Rattle.turn_cell.proofs.Fitting.{set-there, not-held, fits-set, known-set, stakes-set, turns-set, shares-set}
+use Rattle.turn_cell.proofs.Fitting.{not-held, fits-set, known-set, stakes-set, turns-set, shares-set}
 use Rattle.turn_cell.proofs.Gate.{stands-here}
-
-module _ {C E : Type 0} where
-  -- a new seat made nothing
-  pub once-cut : (history : List E) (stakes : List (Stake C E)) (id : ℕ) (claims left right : Option C) (made : List E) → Once history stakes → get_elem? stakes id ≡ some (claims, made)
-      → Once history (set stakes id (left, made) ++ (right, []) ∷ [])
-  once-cut history stakes id claims left right made once at f =
-      let weight : Stake C E → ℕ = λ s. total f s.1 in
-      let t : total weight (set stakes id (left, made)) + total f made ≡ total weight stakes + total f made = total-set weight stakes id (claims, made) (left, made) at in
-      let a : total weight (set stakes id (left, made) ++ (right, []) ∷ []) ≡ total weight (set stakes id (left, made)) + (0 + 0) = total-append weight (set stakes id (left, made)) ((right, []) ∷ []) in
-      let o : total f history ≡ total weight stakes = once f in
-      omega arith
-
-  -- what two seats made is what one made
-  pub once-merge : (history : List E) (stakes : List (Stake C E)) (id other : ℕ) (mine theirs both : Option C) (made given : List E) → Once history stakes
-      → ¬ (other ≡ id) → get_elem? stakes id ≡ some (mine, made) → get_elem? stakes other ≡ some (theirs, given)
-      → Once history (set (set stakes id (both, made ++ given)) other (None, []))
-  once-merge history stakes id other mine theirs both made given once apart at there f =
-      let weight : Stake C E → ℕ = λ s. total f s.1 in
-      let first : List (Stake C E) = set stakes id (both, made ++ given) in
-      let t : total weight first + total f made ≡ total weight stakes + total f (made ++ given) = total-set weight stakes id (mine, made) (both, made ++ given) at in
-      let u : total weight (set first other (None, [])) + total f given ≡ total weight first + 0 = total-set weight first other (theirs, given) (None, []) (set_else stakes id other (both, made ++ given) apart ∙ there) in
-      let p : total f (made ++ given) ≡ total f made + total f given = total-append f made given in
-      let o : total f history ≡ total weight stakes = once f in
-      omega arith
 
 module _ {T C E : Type 0} (truth : T → T → List E → List (Stake C E) → Type 0) (opening : T) where
   -- an idle seat may be cut in two, where its claims may be
