@@ -9,10 +9,19 @@ use std::alloc::Global;
 use std::marker::PhantomData;
 use std::snapshot::Snapshot;
 
-/// What a cell was opened with, for contracts alone.
-pub struct Opening<T, C> {
-    pub value: Snapshot<T>,
-    pub claims: Snapshot<C>,
+// The word of the table, which is `HELD` while a turn runs, and its slot, which has the value while none does.
+pub(crate) const GATE: usize = 0;
+
+pub(crate) const FREE: u64 = 0;
+
+pub(crate) const HELD: u64 = 1;
+
+pub(crate) const SLOT: usize = 0;
+
+// What a cell was opened with, for contracts alone.
+pub(crate) struct Opening<T, C> {
+    value: Snapshot<T>,
+    claims: Snapshot<C>,
 }
 
 impl<T, C> Opening<T, C> {
@@ -35,8 +44,8 @@ impl<T, C> Drop for Opening<T, C> {
     }
 }
 
-/// The rule of a cell's table.
-pub struct Turns<T> {
+// The rule of a cell's table.
+pub(crate) struct Turns<T> {
     marker: PhantomData<T>,
 }
 

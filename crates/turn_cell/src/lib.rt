@@ -14,8 +14,7 @@ mod seat;
 mod turn;
 mod view;
 
-pub use cell::{NoCell, Opening, TurnCell, Turns};
+pub use cell::{NoCell, TurnCell};
 pub use chronicle::{Change, Chronicle, Cut};
 pub use seat::TurnSeat;
 pub use turn::Busy;
-pub use view::View;

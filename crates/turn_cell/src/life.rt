@@ -3,7 +3,7 @@ ghost use Rattle.std.specs.Prelude.{◌≡◌, ◌^◌, [], ◌∷◌, Some, IfO
 ghost use Rattle.turn_cell.specs.Seats.{cell_view, seat_view, seat_claims, IsSeatOf};
 ghost use Rattle.turn_cell.specs.Views.{first_seat, Closed};
 
-use crate::cell::{NoCell, Opening, TurnCell};
+use crate::cell::{FREE, NoCell, Opening, SLOT, TurnCell};
 use crate::chronicle::Chronicle;
 use crate::seat::TurnSeat;
 use atomic_table::{Refused, Table};
@@ -47,7 +47,7 @@ impl<T: Chronicle> TurnCell<T> {
                 claims,
             });
         }
-        match Table::new(alloc, &[0], slots, &opening) {
+        match Table::new(alloc, &[FREE], slots, &opening) {
             Ok((table, place)) => Ok((TurnCell { table }, TurnSeat { place, claims })),
             Err(Refused { slots }) => Err(NoCell {
                 value: only(slots),
@@ -67,7 +67,7 @@ impl<T: Chronicle> TurnCell<T> {
         let (place, claims) = seat.into_parts();
         drop(claims);
         let mut closed = self.into_table().close_with(place);
-        let slot = closed.take(0);
+        let slot = closed.take(SLOT);
         closed.free();
         slot.unwrap()
     }

@@ -7,13 +7,11 @@ ghost use Rattle.turn_cell.specs.Stakes.{Begins};
 ghost use Rattle.turn_cell.specs.Steps.{IsIdle, kept_view, new_view, joined_view, spent_view};
 ghost use Rattle.turn_cell.specs.Views.{kept_part, new_part, joined};
 
-use crate::cell::TurnCell;
+use crate::cell::{GATE, TurnCell};
 use crate::chronicle::{Chronicle, Cut};
 use crate::plays::{Halves, Merged, Pair, Parts, Tells, Told};
 use crate::seat::{Place, TurnSeat, ViewOf};
 use std::marker::Brand;
-
-const GATE: usize = 0;
 
 impl<T: Chronicle> TurnCell<T> {
     fn split_place<L: Parts<T::Claims>>(

@@ -9,7 +9,7 @@ ghost use Rattle.turn_cell.specs.Steps.{IsIdle, Won};
 ghost use Rattle.turn_cell.specs.Stakes.{Begins};
 ghost use Rattle.turn_cell.specs.Views.{Turned, refused_once};
 
-use crate::cell::TurnCell;
+use crate::cell::{FREE, GATE, HELD, SLOT, TurnCell};
 use crate::chronicle::{Change, Chronicle};
 use crate::plays::{Tells, Told};
 use crate::seat::{Place, TurnSeat, ViewOf};
@@ -17,15 +17,6 @@ use std::marker::Brand;
 use std::snapshot::Snapshot;
 use std::sync::Wait;
 use std::thread;
-
-// The words of the gate.
-const FREE: u64 = 0;
-
-const HELD: u64 = 1;
-
-const GATE: usize = 0;
-
-const SLOT: usize = 0;
 
 /// The gate was held. The change, the claims, what the seat has seen and its share are as before.
 #[derive(Drop)]
