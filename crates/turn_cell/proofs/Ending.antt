@@ -18,6 +18,7 @@ use Rattle.turn_cell.proofs.Beginnings.{begins-none}
 use Rattle.turn_cell.proofs.Fitting.{not-held}
 use Rattle.turn_cell.proofs.Stakes.{map-there, tally-alone}
 use Rattle.turn_cell.proofs.Gate.{stands-here}
+use Rattle.turn_cell.proofs.Turning.{some-same}
 
 module _ {T C E : Type 0} where
   first-fits : (value : T) (claims : C) → Fits {E = E} [] value (first_view claims)
@@ -80,3 +81,14 @@ module _ {T C E : Type 0} (truth : T → T → List E → List (Stake C E) → T
               ∙ tally-alone f stakes id (Some claims) v.made stands.here alone;
         };
       }
+
+  -- what is taken from the slot is the value of the whole cell
+  pub taken : {p : Seat (Option T) (View T C E)} {claims : C} {slots : List (Option T)} {x : Option T} (sole : IsSole truth opening p claims slots) → get_elem? slots 0 ≡ some x → x ≡ Some sole.value
+  taken sole at = some-injective _ _ (sym at ∙ sole.slot)
+
+  pub closed-with : {p : Seat (Option T) (View T C E)} {claims : C} {slots : List (Option T)} {x : Option T} (q : Seat (Option T) (View T C E)) (named : C) (y : T) → IsSole truth opening p claims slots
+      → get_elem? slots 0 ≡ some x → x ≡ Some y → p ≡ q → claims ≡ named → Closed truth opening y (place_view q) named
+  closed-with q named y sole at is place same =
+      let P : Seat (Option T) (View T C E) × C × T → Type 0 = λ a. Closed truth opening a.2 (place_view a.0) a.1 in
+      let value : sole.value ≡ y = some-same _ _ (sym (taken sole at) ∙ is) in
+      subst P (λ i. (place i, same i, value i)) sole.closed

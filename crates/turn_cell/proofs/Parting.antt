@@ -114,13 +114,14 @@ module _ {T C E : Type 0} where
   pub idle-view : (me : Me (Option T) (View T C E)) (claims : C) → IsIdle me claims → IsIdle (me.0, []) claims
   idle-view me claims idle = record { slots = refl; held = idle.held; told = idle.told; claims_are = idle.claims_are; share = idle.share }
 
-  pub idle-kept : (me : Me (Option T) (View T C E)) (claims kept : C) (share : ℕ) → IsIdle me claims → share < me.0.share → IsIdle (kept_view share (Some kept) me.0, me.1) kept
-  idle-kept me claims kept share idle less = record { slots = idle.slots; held = idle.held; told = idle.told; claims_are = refl; share = omega arith }
+  pub idle-kept : (me after : Me (Option T) (View T C E)) (claims kept : C) (share : ℕ) → IsIdle me claims → share < me.0.share → after ≡ (kept_view share (Some kept) me.0, me.1) → IsIdle after kept
+  idle-kept me after claims kept share idle less is =
+      subst (λ (m : Me (Option T) (View T C E)). IsIdle m kept) (sym is) (record { slots = idle.slots; held = idle.held; told = idle.told; claims_are = refl; share = omega arith })
 
   pub idle-new : (v : View T C E) (given : C) (share : ℕ) → 0 < share → IsIdle (new_view share (Some given) v, []) given
   idle-new v given share some_part = record { slots = refl; held = refl; told = refl; claims_are = refl; share = some_part }
 
   -- after the look a seat that took in another is idle again
-  pub idle-joined : (me other : Me (Option T) (View T C E)) (mine theirs both : C) → IsIdle me mine → IsIdle other theirs → IsIdle (looked_view (joined_view (Some both) me.0 other.0), []) both
-  idle-joined me other mine theirs both idle idle' =
-      record { slots = refl; held = idle.held; told = refl; claims_are = refl; share = (let a = idle.share in omega arith) }
+  pub idle-joined : (me other last : Me (Option T) (View T C E)) (mine theirs both : C) → IsIdle me mine → IsIdle other theirs → last ≡ (looked_view (joined_view (Some both) me.0 other.0), []) → IsIdle last both
+  idle-joined me other last mine theirs both idle idle' is =
+      subst (λ (m : Me (Option T) (View T C E)). IsIdle m both) (sym is) (record { slots = refl; held = idle.held; told = refl; claims_are = refl; share = (let a = idle.share in omega arith) })

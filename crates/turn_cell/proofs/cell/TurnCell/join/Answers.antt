@@ -1,9 +1,8 @@
-use Rattle.std.proofs.Common.{◌≤◌, length, [], Some, sym, ap, ◌∙◌, subst}
+use Rattle.std.proofs.Common.{ap, ◌∙◌, subst}
+use Rattle.turn_cell.specs.Seats.{place_view}
 use Rattle.turn_cell.specs.Stakes.{Begins}
-use Rattle.turn_cell.specs.Views.{longer}
-use Rattle.turn_cell.specs.Steps.{IsIdle, shorter, joined_view, looked_view}
-use Rattle.turn_cell.proofs.Beginnings.{begins-both, shorter-length}
-use Rattle.turn_cell.proofs.Looking.{looks-at}
+use Rattle.turn_cell.specs.Views.{joined}
+use Rattle.turn_cell.proofs.Looking.{looks-at, looked-joined, begins-joined}
 use Rattle.turn_cell.proofs.Parting.{joins, idle-view, idle-joined}
 use Rattle.turn_cell.proofs.cell.TurnCell.join.Goals as goal
 
@@ -24,26 +23,23 @@ invariant_of-into g c =
     let into = c.args.into.now in
     let place = c.into_parts-place.result.0 in
     let both = c.merge.new.into in
-    let is = c.look.ensures.step.1.me_is ∙ ap (λ me. (looked_view me.0, [])) c.join_place.ensures.2 in
-    record { idle = subst (λ me. IsIdle me both) (sym is) (idle-joined into.place.me place.me into.claims c.into_parts-place.result.1 both into.idle c.into_parts-place.ensures.2) }
+    let is = looked-joined into.place.me place.me c.join_place.new.place.me c.look.new.place.me both c.join_place.ensures.2 c.look.ensures.step.1 in
+    record { idle = idle-joined into.place.me place.me c.look.new.place.me into.claims c.into_parts-place.result.1 both into.idle c.into_parts-place.ensures.2 is }
 
 pub returns-clause-seat : goal.returns-clause-seat
 returns-clause-seat g c =
     let into = c.args.into.now in
+    let place = c.into_parts-place.result.0 in
     let both = c.merge.new.into in
     let cell = c.look.ensures.cell.0 ∙ c.join_place.ensures.0 in
-    let is = c.look.ensures.step.1.me_is ∙ ap (λ me. (looked_view me.0, [])) c.join_place.ensures.2 ∙ ap (λ p. (looked_view (joined_view (Some both) into.place.me.0 p.me.0), [])) c.into_parts-place.ensures.0 in
-    λ i. record { cell = cell i; seen = (is i).0.seen; made = (is i).0.made; share = (is i).0.share; refused = (is i).0.refused }
+    let is = looked-joined into.place.me place.me c.join_place.new.place.me c.look.new.place.me both c.join_place.ensures.2 c.look.ensures.step.1 in
+    let from = c.into_parts-place.ensures.0 in
+    (λ i. record { cell = cell i; seen = (is i).0.seen; made = (is i).0.made; share = (is i).0.share; refused = (is i).0.refused }) ∙ (λ i. joined (place_view into.place) (place_view (from i)))
 
 pub returns-clause-begins : goal.returns-clause-begins
 returns-clause-begins g c =
-    let mine = c.args.into.now.place.me.0.seen in
+    let into = c.args.into.now in
     let place = c.into_parts-place.result.0 in
-    let theirs = place.me.0.seen in
-    let joined = ap (λ me. me.0) c.join_place.ensures.2 in
-    let look = c.look.ensures.step.1 in
-    let seen = ap (λ me. me.0.seen) look.me_is ∙ ap (λ v. v.seen) joined in
-    let compared : Begins (shorter mine theirs) (longer mine theirs) = subst (λ v. length v.told ≤ length v.seen → Begins v.told v.seen) joined look.compared (shorter-length mine theirs) in
-    let both = begins-both mine theirs compared in
-    let from = ap (λ p. p.me.0.seen) c.into_parts-place.ensures.0 in
-    (subst (λ l. Begins mine l) (sym seen) both.0, subst (λ l. Begins l c.look.new.place.me.0.seen) from (subst (λ l. Begins theirs l) (sym seen) both.1))
+    let from = c.into_parts-place.ensures.0 in
+    let b = begins-joined into.place.me place.me c.join_place.new.place.me c.look.new.place.me c.merge.new.into c.join_place.ensures.2 c.look.ensures.step.1 in
+    (b.0, subst (λ p. Begins p.me.0.seen c.look.new.place.me.0.seen) from b.1)

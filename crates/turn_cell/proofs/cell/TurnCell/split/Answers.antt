@@ -1,5 +1,3 @@
-use Rattle.std.proofs.Common.{sym, subst}
-use Rattle.turn_cell.specs.Steps.{IsIdle}
 use Rattle.turn_cell.proofs.Parting.{splits, idle-view, idle-kept}
 use Rattle.turn_cell.proofs.cell.TurnCell.split.Goals as goal
 
@@ -12,4 +10,4 @@ split_place-place-requires-clause-step g c =
 pub invariant_of-seat : goal.invariant_of-seat
 invariant_of-seat g c =
     let seat = c.args.seat.now in
-    record { idle = subst (λ me. IsIdle me c.cut-claims.new.claims) (sym c.split_place-place.ensures.kept.2) (idle-kept seat.place.me seat.claims c.cut-claims.new.claims c.args.share seat.idle c.requires.less) }
+    record { idle = idle-kept seat.place.me c.split_place-place.new.place.me seat.claims c.cut-claims.new.claims c.args.share seat.idle c.requires.less c.split_place-place.ensures.kept.2 }
