@@ -1,0 +1,6 @@
+pub mod Stakes
+pub mod Laws
+pub mod Views
+pub mod Rule
+pub mod Steps
+pub mod Seats

@@ -1,0 +1,67 @@
+-- What contracts see of a cell and of a seat, and what its calls tell of them.
+use Rattle.std.specs.Prelude.{◌≡◌, ◌≢◌, ℕ, ◌+◌, ◌-◌, List, [], ◌∷◌, ◌++◌, length, if◌then◌else◌, nat_lt, None}
+use mathlib.Core.Option.{some}
+use lib.ListN.{get_elem?}
+use Rattle.std.specs.Prelude.{slice_set, Some}
+use Rattle.atomic_table.specs.Seated.{TableId}
+use Rattle.turn_cell.specs.Stakes.{Stake, total}
+use Rattle.turn_cell.specs.Laws.{Stands}
+
+-- which cell it is, and the value that it was opened with
+pub record CellView (T : Type 0) : Type 0 where
+  pub cell : TableId
+  pub opening : T
+
+-- the seat's cell, the beginning of the history that it has seen, the entries that it made, its share, and the words that its refused compare and exchanges found
+pub record SeatView (E : Type 0) : Type 0 where
+  pub cell : TableId
+  pub seen : List E
+  pub made : List E
+  pub share : ℕ
+  pub refused : List ℕ
+
+-- the longer of two lists, and the first where they are as long
+abbrev pub longer : {A : Type 0} → List A → List A → List A
+longer xs ys = if nat_lt (length xs) (length ys) then ys else xs
+
+module _ {E : Type 0} where
+  -- the one seat of a new cell
+  abbrev pub first_seat : TableId → ℕ → SeatView E
+  first_seat cell share = record { cell = cell; seen = []; made = []; share = share; refused = [] }
+
+  -- the seat, after one more compare and exchange was refused and found this word
+  abbrev pub refused_once : SeatView E → ℕ → SeatView E
+  refused_once s word = record s { refused = s.refused ++ word ∷ [] }
+
+  -- the seat that is left after a split, and the new one, which has seen as much and made nothing
+  abbrev pub kept_part : SeatView E → ℕ → SeatView E
+  kept_part s share = record s { share = s.share - share }
+
+  abbrev pub new_part : SeatView E → ℕ → SeatView E
+  new_part s share = record s { made = []; share = share; refused = [] }
+
+  -- both seats as one: the longer of the two lists, the entries and the shares of both, and the refused words of the first
+  abbrev pub joined : SeatView E → SeatView E → SeatView E
+  joined s t = record s { seen = longer s.seen t.seen; made = s.made ++ t.made; share = s.share + t.share }
+
+-- One turn, from the seat `before` to the seat `after`: others had made entries that this seat had not seen, and then it made one. The change did it to the value, and the truth held before and holds after
+pub record Turned {T C E : Type 0} (truth : T → T → List E → List (Stake C E) → Type 0) (does : List E → T → T → E → Type 0) (opening : T) (claims left : C) (before after : SeatView E) : Type 0 where
+  pub others : List E
+  pub entry : E
+  pub value : T
+  pub next : T
+  pub number : ℕ
+  pub stakes : List (Stake C E)
+  pub seen_is : after.seen ≡ (before.seen ++ others) ++ entry ∷ []
+  pub made_is : after.made ≡ before.made ++ entry ∷ []
+  pub done : does (before.seen ++ others) value next entry
+  pub stood : Stands truth opening value (before.seen ++ others) stakes number claims before.made
+  pub stands : Stands truth opening next after.seen (slice_set stakes number (Some left, after.made)) number left after.made
+
+-- The whole of a cell that is closed: the seat has seen the whole history and made all of it, and nobody else claims anything
+pub record Closed {T C E : Type 0} (truth : T → T → List E → List (Stake C E) → Type 0) (opening value : T) (seat : SeatView E) (claims : C) : Type 0 where
+  pub number : ℕ
+  pub stakes : List (Stake C E)
+  pub stands : Stands truth opening value seat.seen stakes number claims seat.made
+  pub alone : (other : ℕ) (s : Stake C E) → other ≢ number → get_elem? stakes other ≡ some s → s ≡ (None, [])
+  pub once : (f : E → ℕ) → total f seat.seen ≡ total f seat.made
