@@ -18,31 +18,27 @@ abbrev pub holders : Class → List Known → ℕ
 holders c [] = 0
 holders c (v ∷ vs) = weight c v.holds + holders c vs
 
--- The seats that hold a class are as many as the word tells of it, which is none for all classes but one. One seat at
--- most holds the exclusive class
-pub record ClassesExclude (word : ℕ) (views : List Known) : Type 0 where
-  pub counted : (c : Class) → holders c views ≡ told c word
-  pub one_exclusive : told Exclusive word ≤ 1
-
--- a lock has one word, which excludes by class
-pub record IsExclusive (s : State (Unit {0}) Known) : Type 0 where
+-- Class exclusion, of a lock's one word and what its seats know: the seats that hold a class are as many as the word
+-- tells of it, which is none for all classes but one, and one seat at most holds the exclusive class
+pub record ClassesExclude (s : State (Unit {0}) Known) : Type 0 where
   pub one_word : length s.words ≡ 1
-  pub excludes : ClassesExclude (slice_index s.words 0) s.views
+  pub counted : (c : Class) → holders c s.views ≡ told c (slice_index s.words 0)
+  pub one_exclusive : told Exclusive (slice_index s.words 0) ≤ 1
 
 -- two seats that hold a class hold the same
 abbrev pub HoldsShareAClass : Type 0
 HoldsShareAClass =
-    (word : ℕ) (views : List Known) → ClassesExclude word views → (i j : ℕ) (v w : Known) (c d : Class) → get_elem? views i ≡ some v → v.holds ≡ Some c
-    → get_elem? views j ≡ some w → w.holds ≡ Some d → c ≡ d
+    (s : State (Unit {0}) Known) → ClassesExclude s → (i j : ℕ) (v w : Known) (c d : Class) → get_elem? s.views i ≡ some v → v.holds ≡ Some c
+    → get_elem? s.views j ≡ some w → w.holds ≡ Some d → c ≡ d
 
 -- beside a seat that holds the exclusive class no other seat holds anything
 abbrev pub ExclusiveIsAlone : Type 0
 ExclusiveIsAlone =
-    (word : ℕ) (views : List Known) → ClassesExclude word views → (i j : ℕ) (v w : Known) → get_elem? views i ≡ some v → v.holds ≡ Some Exclusive
-    → get_elem? views j ≡ some w → i ≢ j → w.holds ≡ None
+    (s : State (Unit {0}) Known) → ClassesExclude s → (i j : ℕ) (v w : Known) → get_elem? s.views i ≡ some v → v.holds ≡ Some Exclusive
+    → get_elem? s.views j ≡ some w → i ≢ j → w.holds ≡ None
 
 -- the word tells the class that a seat holds, with the number of the seats that hold it
 abbrev pub WordTellsTheHolds : Type 0
 WordTellsTheHolds =
-    (word : ℕ) (views : List Known) → ClassesExclude word views → (i : ℕ) (v : Known) (c : Class) → get_elem? views i ≡ some v → v.holds ≡ Some c
-    → (class_in word ≡ class_number c) × (holds_in word ≡ holders c views)
+    (s : State (Unit {0}) Known) → ClassesExclude s → (i : ℕ) (v : Known) (c : Class) → get_elem? s.views i ≡ some v → v.holds ≡ Some c
+    → (class_in (slice_index s.words 0) ≡ class_number c) × (holds_in (slice_index s.words 0) ≡ holders c s.views)

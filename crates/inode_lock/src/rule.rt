@@ -1,6 +1,6 @@
 //! Class exclusion, as the rule of the word, and what each kind of step tells the seat that makes it.
 //! The types are for the proofs alone.
-ghost use Rattle.inode_lock.specs.Exclusion.{IsExclusive};
+ghost use Rattle.inode_lock.specs.Exclusion.{ClassesExclude};
 ghost use Rattle.inode_lock.specs.Steps.{newcomer, forked};
 ghost use Rattle.inode_lock.specs.Tells.{Looked, Asked, Left};
 ghost use Rattle.inode_lock.specs.declared.word.Class.TheVariants.{Cached, Direct, Exclusive};
@@ -13,7 +13,7 @@ use atomic_table::{Play, Split, TableRule};
 pub struct Exclusion;
 
 impl TableRule<(), Known, ()> for Exclusion {
-    ghost holds = { λ _. IsExclusive };
+    ghost holds = { λ _. ClassesExclude };
 
     ghost first = { λ _. newcomer };
 }

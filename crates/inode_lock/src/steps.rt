@@ -5,11 +5,20 @@ use std::collections::LinkedList;
 /// One step of a seat at the word of its lock, with the word that it found.
 pub enum Step {
     /// A load.
-    Look(u64),
+    Look {
+        found: u64,
+    },
     /// A compare and exchange that asks for a hold of the class, and whether it was granted.
-    Take(Class, u64, bool),
+    Take {
+        class: Class,
+        found: u64,
+        granted: bool,
+    },
     /// The end of a hold of the class.
-    Leave(Class, u64),
+    Leave {
+        class: Class,
+        found: u64,
+    },
     /// Another seat was made. It reads no word.
     Split,
 }

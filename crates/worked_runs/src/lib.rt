@@ -1,0 +1,5 @@
+//! Runs that are worked out by hand, as tests of the crates below.
+#![tactic(auto)]
+
+#[cfg(test)]
+mod locks;
