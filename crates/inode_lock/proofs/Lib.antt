@@ -3,3 +3,4 @@ pub mod Holders
 pub mod Keeps
 pub mod Meaning
 pub mod Tries
+pub mod Counted

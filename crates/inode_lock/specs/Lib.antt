@@ -4,3 +4,4 @@ pub mod View
 pub mod Exclusion
 pub mod Tells
 pub mod Calls
+pub mod Growth

@@ -22,7 +22,9 @@ mod steps;
 mod turns;
 mod word;
 
-pub use laws::{exclusive_is_alone, holds_share_a_class, word_tells_the_holds};
+pub use laws::{
+    calls_count_their_steps, exclusive_is_alone, holds_share_a_class, word_tells_the_holds,
+};
 pub use lock::InodeLock;
 pub use rule::Exclusion;
 pub use seats::{CachedHold, DirectHold, ExclusiveHold, LockBusy, LockSeat};
