@@ -9,6 +9,7 @@
 //! - `seats`: the seat, the three holds, and the refusal
 //! - `lock`: the lock, how it starts, and how seats are made
 //! - `turns`: what the calls are made of: looks, takes, tries and leaves
+//! - `sleep`: how a thread sleeps until a hold ends, and how it is woken
 //! - `calls`: for each class a try, a wait and the end of a hold
 //! - `laws`: what class exclusion means, whatever the word and the seats are
 #![tactic(auto)]
@@ -18,6 +19,7 @@ mod laws;
 mod lock;
 mod rule;
 mod seats;
+mod sleep;
 mod steps;
 mod turns;
 mod word;

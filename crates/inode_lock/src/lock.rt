@@ -9,6 +9,7 @@ use crate::steps::Known;
 use atomic_table::Table;
 use std::alloc::{AllocError, Global};
 use std::marker::Model;
+use std::sync::atomic::AtomicU64;
 
 /// A lock of three classes. To a contract it is what tells it from every other lock.
 ///
@@ -16,6 +17,8 @@ use std::marker::Model;
 #[derive(Drop)]
 pub struct InodeLock {
     pub(crate) table: Table<(), Known, (), Exclusion, Global>,
+    // How many threads sleep until a hold ends.
+    pub(crate) sleepers: AtomicU64,
 }
 
 impl Model for InodeLock {
@@ -34,7 +37,8 @@ impl InodeLock {
         ensures { IfOk result (λ made. made.1 ≡ fresh made.0 0) }
     {
         let (table, seat) = Table::of_words(alloc, &[0], &())?;
-        Ok((InodeLock { table }, LockSeat { seat }))
+        let sleepers = AtomicU64::new(0);
+        Ok((InodeLock { table, sleepers }, LockSeat { seat }))
     }
 
     /// Makes another seat of this lock, which has made no step yet. The split is a step of the first. It takes no memory.

@@ -12,7 +12,6 @@ use crate::rule::{
 use crate::seats::{LockBusy, LockSeat, Seat};
 use crate::word::Class;
 use std::sync::Wait;
-use std::thread::yield_now;
 
 // Why a try failed: the word that its look found, and the last word that it found.
 #[derive(Clone, Copy)]
@@ -89,14 +88,24 @@ impl InodeLock {
         for _ in rt.forever() {
             match self.attempt(seat, class) {
                 Ok(()) => return,
-                Err(_) => yield_now(),
+                Err(refusal) => self.rest(rt, class, refusal.found),
             }
         }
         unreachable!()
     }
 
-    // Ends a hold of the class.
+    // Ends a hold of the class, and wakes those that it may let in.
     pub(crate) fn quit(&self, seat: &mut Seat, class: Class)
+        requires lock { seat.old.table_id ≡ self.now }
+        requires holds { seat.old.me.0.holds ≡ Some class }
+        ensures { IsLeft class (view_of seat.old) (view_of seat.new) }
+    {
+        let found = self.give_up(seat, class);
+        self.wake(found);
+    }
+
+    // Counts a hold of the class down, and returns the word found.
+    fn give_up(&self, seat: &mut Seat, class: Class) -> u64
         requires lock { seat.old.table_id ≡ self.now }
         requires holds { seat.old.me.0.holds ≡ Some class }
         ensures { IsLeft class (view_of seat.old) (view_of seat.new) }
@@ -106,6 +115,6 @@ impl InodeLock {
             Class::Cached => shared.fetch_sub::<LeavesCached>(seat, 0, 1),
             Class::Direct => shared.fetch_sub::<LeavesDirect>(seat, 0, 1),
             Class::Exclusive => shared.fetch_sub::<LeavesExclusive>(seat, 0, 1),
-        };
+        }
     }
 }

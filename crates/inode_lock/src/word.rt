@@ -53,3 +53,16 @@ impl Class {
         self.number() * PLACE + word % PLACE + 1
     }
 }
+
+// How many holds a word tells.
+pub(crate) fn count_in(word: u64) -> u32
+    ensures { result ≡ holds_in word }
+{
+    (word % PLACE) as u32
+}
+
+// Whether a leave at this word may let in a class that it excluded: it ends the last hold, or makes room for one more.
+pub(crate) fn lets_others_in(word: u64) -> bool {
+    let holds = word % PLACE;
+    holds == 1 || holds == FULL
+}

@@ -17,7 +17,7 @@ const DIRECT: u64 = 2 << 32;
 const EXCLUSIVE: u64 = 3 << 32;
 
 // How often each of two threads counts.
-const ROUNDS: u64 = 20_000;
+const ROUNDS: u64 = 100_000;
 
 // A cached hold is not to be had.
 fn cached_is_refused(rt: &impl Abort, lock: &InodeLock, seat: LockSeat) -> LockBusy

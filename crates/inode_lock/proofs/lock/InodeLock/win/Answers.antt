@@ -6,5 +6,5 @@ pub loop-preserved : goal.loop-preserved
 loop-preserved g c = (
   tt,
   tt,
-  tried_again c.args.class (view_of c.args.seat.now) (view_of c.loop.seat) (view_of c.attempt.new.seat) c.in-Err.field-0.read c.in-Err.field-0.found c.loop.invariant.2 c.in-Err.ensures.err,
+  tried_again c.args.class (view_of c.args.seat.now) (view_of c.loop.seat) (view_of c.attempt.new.seat) c.in-Err.refusal.read c.in-Err.refusal.found c.loop.invariant.2 c.in-Err.ensures.err,
 )

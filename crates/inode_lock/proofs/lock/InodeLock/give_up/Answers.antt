@@ -2,7 +2,7 @@ use Rattle.std.proofs.Common.{rules, ◌∙◌, ap, Some}
 use Rattle.inode_lock.specs.declared.word.Class.{Class}
 use Rattle.inode_lock.specs.declared.word.Class.TheVariants.{Cached, Direct, Exclusive}
 use Rattle.inode_lock.proofs.Keeps.{leaves}
-use Rattle.inode_lock.proofs.lock.InodeLock.quit.Goals as goal
+use Rattle.inode_lock.proofs.lock.InodeLock.give_up.Goals as goal
 
 pub fetch_sub-requires : goal.fetch_sub-requires
 fetch_sub-requires c = (search rules, search rules, leaves Cached _ _ _ (c.requires.holds ∙ ap (λ (k : Class). Some k) c.in-Cached.is))
