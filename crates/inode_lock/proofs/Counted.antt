@@ -1,11 +1,11 @@
 -- What the calls add to a seat's list of steps.
-use Rattle.std.proofs.Common.{◌≡◌, ℕ, ◌+◌, List, [], ◌∷◌, ◌++◌, Bool, true, false, cond, refl, ap, ◌∙◌, arith, append_assoc}
+use Rattle.std.proofs.Common.{◌≡◌, ℕ, ◌+◌, List, [], ◌∷◌, ◌++◌, Bool, true, false, cond, sym, refl, ap, ◌∙◌, arith, append_assoc, append-nil}
 use Rattle.inode_lock.specs.declared.word.Class.{Class}
 use Rattle.inode_lock.specs.declared.steps.Step.{Step}
 use Rattle.inode_lock.specs.declared.steps.Step.TheVariants.{Look, Take, Leave}
 use Rattle.inode_lock.specs.Word.{excludes}
 use Rattle.inode_lock.specs.Calls.{granted_steps, refused_steps, tries_steps}
-use Rattle.inode_lock.specs.Growth.{takes_of, leaves_of, Grows, never, once, GrantTakesOnce, WinTakesOnce, RefusalTakesNothing, LeaveLeavesOnce, GrowthAdds}
+use Rattle.inode_lock.specs.Growth.{takes_of, leaves_of, Grows, never, once, GrantTakesOnce, WinTakesOnce, RefusalTakesNothing, LeaveLeavesOnce, HoldTakesAndLeaves, StayGrowsNothing, GrowthAdds}
 
 takes_of-append : (c : Class) (xs ys : List Step) → takes_of c (xs ++ ys) ≡ takes_of c xs + takes_of c ys
 takes_of-append c [] ys = omega arith
@@ -41,12 +41,15 @@ leaves_of-tries c d (t ∷ ts) =
     omega arith
 
 pub growth_adds : GrowthAdds
-growth_adds xs ys zs t l u m p q = record {
+growth_adds xs ys zs t l u m n o p q sum sum' = record {
   more = p.more ++ q.more;
   steps = q.steps ∙ (ap (λ (s : List Step). s ++ q.more) p.steps ∙ append_assoc xs p.more q.more);
-  takes = λ c. let a = p.takes c in let b = q.takes c in let s = takes_of-append c p.more q.more in omega arith;
-  leaves = λ c. let a = p.leaves c in let b = q.leaves c in let s = leaves_of-append c p.more q.more in omega arith;
+  takes = λ c. let a = p.takes c in let b = q.takes c in let s = takes_of-append c p.more q.more in let e = sum c in omega arith;
+  leaves = λ c. let a = p.leaves c in let b = q.leaves c in let s = leaves_of-append c p.more q.more in let e = sum' c in omega arith;
 }
+
+pub stay_grows_nothing : StayGrowsNothing
+stay_grows_nothing xs = record { more = []; steps = sym (append-nil xs); takes = λ c. refl; leaves = λ c. refl }
 
 pub grant_takes_once : GrantTakesOnce
 grant_takes_once c v w h = record {
@@ -74,13 +77,7 @@ win_takes_once c v w h =
       leaves = λ d. leaves_of-tries c d h.1.0;
     } in
     let granted = grant_takes_once c h.0 w h.2 in
-    let all = growth_adds v.steps h.0.steps w.steps never never (once c) never tried granted in
-    record {
-      more = all.more;
-      steps = all.steps;
-      takes = λ d. let a = all.takes d in omega arith;
-      leaves = λ d. let a = all.leaves d in omega arith;
-    }
+    growth_adds v.steps h.0.steps w.steps never never (once c) never (once c) never tried granted (λ d. omega arith) (λ d. omega arith)
 
 pub leave_leaves_once : LeaveLeavesOnce
 leave_leaves_once c v w h = record {
@@ -89,3 +86,7 @@ leave_leaves_once c v w h = record {
   takes = λ d. refl;
   leaves = λ d. omega arith;
 }
+
+pub hold_takes_and_leaves : HoldTakesAndLeaves
+hold_takes_and_leaves c v h w won left =
+    growth_adds v.steps h.steps w.steps (once c) never never (once c) (once c) (once c) (win_takes_once c v h won) (leave_leaves_once c h w left) (λ d. omega arith) (λ d. omega arith)

@@ -61,7 +61,16 @@ RefusalTakesNothing = (c : Class) (v w : LockView) (read found : ℕ) → IsRefu
 abbrev pub LeaveLeavesOnce : Type 0
 LeaveLeavesOnce = (c : Class) (v w : LockView) → IsLeft c v w → Grows v.steps w.steps never (once c)
 
+-- a wait and the end of its hold take and leave their class once
+abbrev pub HoldTakesAndLeaves : Type 0
+HoldTakesAndLeaves = (c : Class) (v h w : LockView) → IsWon c v h → IsLeft c h w → Grows v.steps w.steps (once c) (once c)
+
+-- a list that stays grew by nothing
+abbrev pub StayGrowsNothing : Type 0
+StayGrowsNothing = (xs : List Step) → Grows xs xs never never
+
 -- what a list grew by twice is added
 abbrev pub GrowthAdds : Type 0
 GrowthAdds =
-    (xs ys zs : List Step) (t l u m : Class → ℕ) → Grows xs ys t l → Grows ys zs u m → Grows xs zs (λ c. t c + u c) (λ c. l c + m c)
+    (xs ys zs : List Step) (t l u m n o : Class → ℕ) → Grows xs ys t l → Grows ys zs u m → ((c : Class) → n c ≡ t c + u c) → ((c : Class) → o c ≡ l c + m c)
+    → Grows xs zs n o

@@ -1,7 +1,7 @@
 //! What class exclusion means, whatever the word and the seats of a lock are between two steps, and what the calls add
 //! to a seat's list of steps. Each law is a function that does nothing.
 ghost use Rattle.inode_lock.specs.Exclusion.{ExclusiveIsAlone, HoldsShareAClass, WordTellsTheHolds};
-ghost use Rattle.inode_lock.specs.Growth.{GrantTakesOnce, WinTakesOnce, RefusalTakesNothing, LeaveLeavesOnce, GrowthAdds};
+ghost use Rattle.inode_lock.specs.Growth.{GrantTakesOnce, WinTakesOnce, RefusalTakesNothing, LeaveLeavesOnce, HoldTakesAndLeaves, StayGrowsNothing, GrowthAdds};
 
 /// Where a seat holds the exclusive class, no other seat holds anything.
 pub fn exclusive_is_alone()
@@ -24,5 +24,7 @@ pub fn calls_count_their_steps()
     ensures win { WinTakesOnce }
     ensures refusal { RefusalTakesNothing }
     ensures leave { LeaveLeavesOnce }
+    ensures hold { HoldTakesAndLeaves }
+    ensures stay { StayGrowsNothing }
     ensures adds { GrowthAdds }
 {}
