@@ -1,5 +1,5 @@
 -- The word of a lock: a class times 2^32, plus the number of its holds.
-use Rattle.std.specs.Prelude.{ℕ, ◌+◌, ◌*◌, ◌/◌, ◌%◌, Bool, true, false, ◌==◌, if◌then◌else◌}
+use Rattle.std.specs.Prelude.{◌≡◌, ◌-◌, ℕ, ◌+◌, ◌*◌, ◌/◌, ◌%◌, Bool, true, false, ◌==◌, if◌then◌else◌}
 use Rattle.inode_lock.specs.declared.word.Class.{Class}
 use Rattle.inode_lock.specs.declared.word.Class.TheVariants.{Cached, Direct, Exclusive}
 
@@ -37,3 +37,7 @@ excludes c word =
     (if holds_in word == 0 then false else
     (if holds_in word == 4294967295 then true else
     (if class_in word == class_number c then is_exclusive c else true)))
+
+-- a class that the word excludes is excluded after one hold less, too
+abbrev pub StaysShut : ℕ → Type 0
+StaysShut word = (c : Class) → excludes c word ≡ true → excludes c (word - 1) ≡ true

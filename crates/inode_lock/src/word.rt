@@ -1,6 +1,7 @@
 //! The classes, and the word that tells one of them with its number of holds.
 ghost use Rattle.std.specs.Prelude.{◌≡◌, ◌+◌, ◌%◌, ◌^◌, ◌<◌, false};
-ghost use Rattle.inode_lock.specs.Word.{class_number, excludes as excludes_class, word_of, holds_in};
+ghost use Rattle.std.specs.Bool.{OnFalse};
+ghost use Rattle.inode_lock.specs.Word.{class_number, excludes as excludes_class, word_of, holds_in, StaysShut};
 
 // A class is told above the low 32 bits of the word, which count its holds.
 const PLACE: u64 = 1 << 32;
@@ -62,7 +63,15 @@ pub(crate) fn count_in(word: u64) -> u32
 }
 
 // Whether a leave at this word may let in a class that it excluded: it ends the last hold, or makes room for one more.
-pub(crate) fn lets_others_in(word: u64) -> bool {
+pub(crate) fn lets_others_in(word: u64) -> bool
+    ensures { OnFalse result (StaysShut word) }
+{
     let holds = word % PLACE;
-    holds == 1 || holds == FULL
+    if holds == 1 {
+        return true;
+    }
+    if holds == FULL {
+        return true;
+    }
+    false
 }
