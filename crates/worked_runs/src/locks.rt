@@ -155,6 +155,55 @@ fn count_in_two<R: Threads + Wait + Sync>(
     )
 }
 
+// Whether the counter stands still under a cached hold, and then under a direct one.
+fn stands_still<R: Wait>(
+    rt: &R,
+    lock: &InodeLock,
+    seat: LockSeat,
+    counter: &AtomicU64,
+) -> (bool, LockSeat)
+    requires { seat.lock ≡ lock.now }
+    ensures { result.1.lock ≡ lock.now }
+{
+    let hold = lock.cached(rt, seat);
+    let cached = counter.load(SeqCst) == counter.load(SeqCst);
+    let seat = lock.leave_cached(hold);
+    let hold = lock.direct(rt, seat);
+    let direct = counter.load(SeqCst) == counter.load(SeqCst);
+    (cached && direct, lock.leave_direct(hold))
+}
+
+fn watch_often<R: Wait>(rt: &R, lock: &InodeLock, seat: LockSeat, counter: &AtomicU64) -> bool
+    requires { seat.lock ≡ lock.now }
+{
+    let mut seat = seat;
+    let mut still = true;
+    for _ in 0..ROUNDS {
+        let watched = stands_still(rt, lock, seat, counter);
+        still = still && watched.0;
+        seat = watched.1;
+    }
+    still
+}
+
+fn count_and_watch<R: Threads + Wait + Sync>(
+    rt: &R,
+    lock: &InodeLock,
+    one: LockSeat,
+    two: LockSeat,
+    counter: &AtomicU64,
+) -> bool
+    requires one { one.lock ≡ lock.now }
+    requires two { two.lock ≡ lock.now }
+{
+    join(
+        rt,
+        || count_often(rt, lock, one, counter),
+        || watch_often(rt, lock, two, counter),
+    )
+    .1
+}
+
 #[test]
 fn two_threads_exclude_each_other(rt: HostRuntime) -> Result<(), Fail> {
     let (lock, mut one) = InodeLock::start(rt.alloc())?;
@@ -162,5 +211,15 @@ fn two_threads_exclude_each_other(rt: HostRuntime) -> Result<(), Fail> {
     let counter = AtomicU64::new(0);
     count_in_two(&rt, &lock, one, two, &counter);
     assert_eq!(rt; counter.load(SeqCst), 2 * ROUNDS);
+    Ok(())
+}
+
+#[test]
+fn shared_holds_keep_a_writer_out(rt: HostRuntime) -> Result<(), Fail> {
+    let (lock, mut one) = InodeLock::start(rt.alloc())?;
+    let two = lock.split(&mut one);
+    let counter = AtomicU64::new(0);
+    assert!(rt; count_and_watch(&rt, &lock, one, two, &counter));
+    assert_eq!(rt; counter.load(SeqCst), ROUNDS);
     Ok(())
 }
