@@ -1,5 +1,5 @@
 -- Each kind of step keeps class exclusion.
-use Rattle.std.proofs.Common.{◌≡◌, ◌≢◌, ℕ, ◌+◌, ◌-◌, ◌%◌, ◌^◌, ◌<◌, ◌≤◌, false, eqb, List, get_or, set, sym, refl, ap, ◌∙◌, subst, arith, length-set, get_or-set_same, eq-eqb, ne_eqb, None, Some}
+use Rattle.std.proofs.Common.{◌≡◌, ◌≢◌, ℕ, ◌+◌, ◌-◌, ◌%◌, ◌^◌, ◌<◌, ◌≤◌, Bool, true, false, eqb, List, get_or, set, sym, refl, ap, ◌∙◌, subst, arith, length-set, get_or-set_same, eq-eqb, ne_eqb, None, Some}
 use mathlib.Core.Logic.{dite}
 use mathlib.Core.Option.{none, some}
 use native.Mathlib.Decide.{ℕ_discrete}
@@ -67,23 +67,32 @@ taken c n id views v w at idle now admits h = record {
   one_exclusive = one-joined c n admits h.one_exclusive;
 }
 
+-- a take at the word that it expects is granted
+granted : (c : Class) (n read new id : ℕ) (views : List Known) (v : Known) → get_elem? views id ≡ some v → v.holds ≡ None → excludes c read ≡ false → new ≡ word_of c (holds_in read + 1) → n ≡ read
+    → Fits n views → Fits (either (eqb n read) new n) (set views id (asked c n (eqb n read) v))
+granted c n read new id views v at idle admits joined e h =
+    let P : Bool → Type 0 = λ b. Fits (either b new n) (set views id (asked c n b v)) in
+    let admits_n : excludes c n ≡ false = subst (λ (k : ℕ). excludes c k ≡ false) (sym e) admits in
+    let joined_n : word_of c (holds_in n + 1) ≡ new = ap (λ (k : ℕ). word_of c (holds_in k + 1)) e ∙ sym joined in
+    let now = taken c n id views v (asked c n true v) at idle refl admits_n h in
+    subst P (sym (eq-eqb n read e)) (subst (λ (k : ℕ). Fits k (set views id (asked c n true v))) joined_n now)
+
+-- and at another word it changes nothing
+refused : (c : Class) (n read new id : ℕ) (views : List Known) (v : Known) → get_elem? views id ≡ some v → n ≢ read → Fits n views
+    → Fits (either (eqb n read) new n) (set views id (asked c n (eqb n read) v))
+refused c n read new id views v at e h =
+    let P : Bool → Type 0 = λ b. Fits (either b new n) (set views id (asked c n b v)) in
+    subst P (sym (ne_eqb n read e)) (unmoved n id views v (asked c n false v) at refl h)
+
 pub asks : (c : Class) (slots id : ℕ) (me : M) (read new : ℕ) → me.0.holds ≡ None → excludes c read ≡ false → new ≡ word_of c (holds_in read + 1)
     → Allows ClassesExclude slots id me 0 (λ n. either (eqb n read) new n) (Asked c (step slots 0 read new none) me)
 asks c slots id me read new idle admits joined s r _ at _ =
     let n : ℕ = get_or s.words 0 0 in
     let w : Known = asked c n (eqb n read) me.0 in
-    let hit : n ≡ read → Fits (either (eqb n read) new n) (set s.views id w) = λ e.
-    let b = eq-eqb n read e in
-    let held : w.holds ≡ Some c = rw b refl in
-    let found : either (eqb n read) new n ≡ word_of c (holds_in n + 1) = rw b (joined ∙ ap (λ (k : ℕ). word_of c (holds_in k + 1)) (sym e)) in
-    subst (λ (k : ℕ). Fits k (set s.views id w)) (sym found)
-    (taken c n id s.views me.0 w at idle held (subst (λ (k : ℕ). excludes c k ≡ false) (sym e) admits) (of_state s r)) in
-    let miss : n ≢ read → Fits (either (eqb n read) new n) (set s.views id w) = λ e.
-    let b = ne_eqb n read e in
-    let same : w.holds ≡ me.0.holds = rw b refl in
-    let found : either (eqb n read) new n ≡ n = rw b refl in
-    subst (λ (k : ℕ). Fits k (set s.views id w)) (sym found) (unmoved n id s.views me.0 w at same (of_state s r)) in
-    (w, keeps, tt, placed s r (either (eqb n read) new n) id me w (dite (ℕ_discrete n read) hit miss), refl)
+    let h = of_state s r in
+    let kept : Fits (either (eqb n read) new n) (set s.views id w) =
+    dite (ℕ_discrete n read) (λ e. granted c n read new id s.views me.0 at idle admits joined e h) (λ e. refused c n read new id s.views me.0 at e h) in
+    (w, keeps, tt, placed s r (either (eqb n read) new n) id me w kept, refl)
 
 -- a seat that held the class holds nothing
 given_up : (c : Class) (n m id : ℕ) (views : List Known) (v w : Known) → get_elem? views id ≡ some v → v.holds ≡ Some c → w.holds ≡ None → 0 < told c n → m + 1 ≡ n → Fits n views

@@ -9,7 +9,9 @@ use std::marker::Model;
 
 pub(crate) type Seat = atomic_table::Seat<(), Known>;
 
-/// A place at a lock, which holds no class. It has no bytes, and one that is no longer needed is dropped.
+/// A place at a lock. It has no bytes, and one that is no longer needed is dropped.
+///
+/// Invariant: it holds no class.
 #[derive(Drop)]
 pub struct LockSeat {
     pub(crate) seat: Seat,
@@ -24,6 +26,8 @@ impl Model for LockSeat {
 }
 
 /// A seat that holds the cached class. It ends in `InodeLock::leave_cached` alone, since it has no `Drop`.
+///
+/// Invariant: it holds the cached class, and no other.
 pub struct CachedHold {
     pub(crate) seat: Seat,
 }
@@ -37,6 +41,8 @@ impl Model for CachedHold {
 }
 
 /// A seat that holds the direct class. It ends in `InodeLock::leave_direct` alone, since it has no `Drop`.
+///
+/// Invariant: it holds the direct class, and no other.
 pub struct DirectHold {
     pub(crate) seat: Seat,
 }
@@ -50,6 +56,8 @@ impl Model for DirectHold {
 }
 
 /// A seat that holds the exclusive class. It ends in `InodeLock::leave_exclusive` alone, since it has no `Drop`.
+///
+/// Invariant: it holds the exclusive class, and no other.
 pub struct ExclusiveHold {
     pub(crate) seat: Seat,
 }
