@@ -1,5 +1,7 @@
-//! Tests that cross crates, a file for each crate that they try.
+//! Tests that cross crates: runs that are worked out by hand, and each public call once.
 #![tactic(auto)]
 
+#[cfg(test)]
+mod locks;
 #[cfg(test)]
 mod turns;

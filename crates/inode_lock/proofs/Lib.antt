@@ -1,0 +1,6 @@
+pub mod Words
+pub mod Holders
+pub mod Keeps
+pub mod Meaning
+pub mod Tries
+pub mod Counted
