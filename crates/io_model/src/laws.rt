@@ -2,6 +2,7 @@
 ghost use Rattle.std.specs.Prelude.{◌≡◌, [], ◌∷◌, false};
 ghost use Rattle.io_model.specs.Right.{RunIsRight};
 ghost use Rattle.io_model.specs.Rows.ReadsOneMappedBlock as reads_one_mapped_block;
+ghost use Rattle.io_model.specs.Rows.HoleAndUnwrittenReadZeros as hole_and_unwritten_read_zeros;
 ghost use Rattle.io_model.specs.RunText.{run_text};
 
 /// A read of one mapped block gives the block's bytes, and leaves one stamp there.
@@ -9,4 +10,11 @@ ghost use Rattle.io_model.specs.RunText.{run_text};
 pub fn reads_one_mapped_block()
     ensures right { RunIsRight reads_one_mapped_block.script (0 ∷ []) reads_one_mapped_block.run }
     ensures text { run_text reads_one_mapped_block.script reads_one_mapped_block.run false ≡ reads_one_mapped_block.text }
+{}
+
+/// Holes and unwritten blocks read as zeros, whatever bytes the device has there.
+#[tactic(auto, unfolding(crate::specs::Rows::Parts::printed))]
+pub fn hole_and_unwritten_read_zeros()
+    ensures right { RunIsRight hole_and_unwritten_read_zeros.script (0 ∷ 0 ∷ []) hole_and_unwritten_read_zeros.run }
+    ensures text { run_text hole_and_unwritten_read_zeros.script hole_and_unwritten_read_zeros.run false ≡ hole_and_unwritten_read_zeros.text }
 {}
