@@ -1,3 +1,4 @@
 pub mod Parts
 pub mod ReadsOneMappedBlock
 pub mod HoleAndUnwrittenReadZeros
+pub mod WriteIntoUnwrittenConvertsAtClose

@@ -3,6 +3,7 @@ ghost use Rattle.std.specs.Prelude.{◌≡◌, [], ◌∷◌, false};
 ghost use Rattle.io_model.specs.Right.{RunIsRight};
 ghost use Rattle.io_model.specs.Rows.ReadsOneMappedBlock as reads_one_mapped_block;
 ghost use Rattle.io_model.specs.Rows.HoleAndUnwrittenReadZeros as hole_and_unwritten_read_zeros;
+ghost use Rattle.io_model.specs.Rows.WriteIntoUnwrittenConvertsAtClose as write_into_unwritten_converts_at_close;
 ghost use Rattle.io_model.specs.RunText.{run_text};
 
 /// A read of one mapped block gives the block's bytes, and leaves one stamp there.
@@ -17,4 +18,11 @@ pub fn reads_one_mapped_block()
 pub fn hole_and_unwritten_read_zeros()
     ensures right { RunIsRight hole_and_unwritten_read_zeros.script (0 ∷ 0 ∷ []) hole_and_unwritten_read_zeros.run }
     ensures text { run_text hole_and_unwritten_read_zeros.script hole_and_unwritten_read_zeros.run false ≡ hole_and_unwritten_read_zeros.text }
+{}
+
+/// A write into unwritten space leaves zeros around its bytes, and the closing sync maps the block.
+#[tactic(auto, unfolding(crate::specs::Rows::Parts::printed))]
+pub fn write_into_unwritten_converts_at_close()
+    ensures right { RunIsRight write_into_unwritten_converts_at_close.script (0 ∷ 0 ∷ []) write_into_unwritten_converts_at_close.run }
+    ensures text { run_text write_into_unwritten_converts_at_close.script write_into_unwritten_converts_at_close.run false ≡ write_into_unwritten_converts_at_close.text }
 {}
