@@ -2,3 +2,4 @@ pub mod Parts
 pub mod ReadsOneMappedBlock
 pub mod HoleAndUnwrittenReadZeros
 pub mod WriteIntoUnwrittenConvertsAtClose
+pub mod OneBioForThreeDirtyBlocks

@@ -4,6 +4,7 @@ ghost use Rattle.io_model.specs.Right.{RunIsRight};
 ghost use Rattle.io_model.specs.Rows.ReadsOneMappedBlock as reads_one_mapped_block;
 ghost use Rattle.io_model.specs.Rows.HoleAndUnwrittenReadZeros as hole_and_unwritten_read_zeros;
 ghost use Rattle.io_model.specs.Rows.WriteIntoUnwrittenConvertsAtClose as write_into_unwritten_converts_at_close;
+ghost use Rattle.io_model.specs.Rows.OneBioForThreeDirtyBlocks as one_bio_for_three_dirty_blocks;
 ghost use Rattle.io_model.specs.RunText.{run_text};
 
 /// A read of one mapped block gives the block's bytes, and leaves one stamp there.
@@ -25,4 +26,11 @@ pub fn hole_and_unwritten_read_zeros()
 pub fn write_into_unwritten_converts_at_close()
     ensures right { RunIsRight write_into_unwritten_converts_at_close.script (0 ∷ 0 ∷ []) write_into_unwritten_converts_at_close.run }
     ensures text { run_text write_into_unwritten_converts_at_close.script write_into_unwritten_converts_at_close.run false ≡ write_into_unwritten_converts_at_close.text }
+{}
+
+/// Three dirty blocks of a hole get space in order, and one transfer writes them.
+#[tactic(auto, unfolding(crate::specs::Rows::Parts::printed))]
+pub fn one_bio_for_three_dirty_blocks()
+    ensures right { RunIsRight one_bio_for_three_dirty_blocks.script (0 ∷ []) one_bio_for_three_dirty_blocks.run }
+    ensures text { run_text one_bio_for_three_dirty_blocks.script one_bio_for_three_dirty_blocks.run false ≡ one_bio_for_three_dirty_blocks.text }
 {}
