@@ -3,3 +3,4 @@ pub mod ReadsOneMappedBlock
 pub mod HoleAndUnwrittenReadZeros
 pub mod WriteIntoUnwrittenConvertsAtClose
 pub mod OneBioForThreeDirtyBlocks
+pub mod PartialWriteReadsTheBlock

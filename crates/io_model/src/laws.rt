@@ -5,6 +5,7 @@ ghost use Rattle.io_model.specs.Rows.ReadsOneMappedBlock as reads_one_mapped_blo
 ghost use Rattle.io_model.specs.Rows.HoleAndUnwrittenReadZeros as hole_and_unwritten_read_zeros;
 ghost use Rattle.io_model.specs.Rows.WriteIntoUnwrittenConvertsAtClose as write_into_unwritten_converts_at_close;
 ghost use Rattle.io_model.specs.Rows.OneBioForThreeDirtyBlocks as one_bio_for_three_dirty_blocks;
+ghost use Rattle.io_model.specs.Rows.PartialWriteReadsTheBlock as partial_write_reads_the_block;
 ghost use Rattle.io_model.specs.RunText.{run_text};
 
 /// A read of one mapped block gives the block's bytes, and leaves one stamp there.
@@ -33,4 +34,11 @@ pub fn write_into_unwritten_converts_at_close()
 pub fn one_bio_for_three_dirty_blocks()
     ensures right { RunIsRight one_bio_for_three_dirty_blocks.script (0 ∷ []) one_bio_for_three_dirty_blocks.run }
     ensures text { run_text one_bio_for_three_dirty_blocks.script one_bio_for_three_dirty_blocks.run false ≡ one_bio_for_three_dirty_blocks.text }
+{}
+
+/// A write of a part of a mapped block keeps the block's other bytes.
+#[tactic(auto, unfolding(crate::specs::Rows::Parts::printed))]
+pub fn partial_write_reads_the_block()
+    ensures right { RunIsRight partial_write_reads_the_block.script (0 ∷ 0 ∷ []) partial_write_reads_the_block.run }
+    ensures text { run_text partial_write_reads_the_block.script partial_write_reads_the_block.run false ≡ partial_write_reads_the_block.text }
 {}
