@@ -4,3 +4,4 @@ pub mod HoleAndUnwrittenReadZeros
 pub mod WriteIntoUnwrittenConvertsAtClose
 pub mod OneBioForThreeDirtyBlocks
 pub mod PartialWriteReadsTheBlock
+pub mod FailedDirectWriteLandsAPrefix

@@ -6,6 +6,7 @@ ghost use Rattle.io_model.specs.Rows.HoleAndUnwrittenReadZeros as hole_and_unwri
 ghost use Rattle.io_model.specs.Rows.WriteIntoUnwrittenConvertsAtClose as write_into_unwritten_converts_at_close;
 ghost use Rattle.io_model.specs.Rows.OneBioForThreeDirtyBlocks as one_bio_for_three_dirty_blocks;
 ghost use Rattle.io_model.specs.Rows.PartialWriteReadsTheBlock as partial_write_reads_the_block;
+ghost use Rattle.io_model.specs.Rows.FailedDirectWriteLandsAPrefix as failed_direct_write_lands_a_prefix;
 ghost use Rattle.io_model.specs.RunText.{run_text};
 
 /// A read of one mapped block gives the block's bytes, and leaves one stamp there.
@@ -41,4 +42,11 @@ pub fn one_bio_for_three_dirty_blocks()
 pub fn partial_write_reads_the_block()
     ensures right { RunIsRight partial_write_reads_the_block.script (0 ∷ 0 ∷ []) partial_write_reads_the_block.run }
     ensures text { run_text partial_write_reads_the_block.script partial_write_reads_the_block.run false ≡ partial_write_reads_the_block.text }
+{}
+
+/// A direct write that failed has changed the mapped blocks that it moved, and no other.
+#[tactic(auto, unfolding(crate::specs::Rows::Parts::printed))]
+pub fn failed_direct_write_lands_a_prefix()
+    ensures right { RunIsRight failed_direct_write_lands_a_prefix.script (0 ∷ 0 ∷ []) failed_direct_write_lands_a_prefix.run }
+    ensures text { run_text failed_direct_write_lands_a_prefix.script failed_direct_write_lands_a_prefix.run false ≡ failed_direct_write_lands_a_prefix.text }
 {}
