@@ -5,3 +5,4 @@ pub mod WriteIntoUnwrittenConvertsAtClose
 pub mod OneBioForThreeDirtyBlocks
 pub mod PartialWriteReadsTheBlock
 pub mod FailedDirectWriteLandsAPrefix
+pub mod FailedDirectWriteLeavesUnwritten

@@ -7,6 +7,7 @@ ghost use Rattle.io_model.specs.Rows.WriteIntoUnwrittenConvertsAtClose as write_
 ghost use Rattle.io_model.specs.Rows.OneBioForThreeDirtyBlocks as one_bio_for_three_dirty_blocks;
 ghost use Rattle.io_model.specs.Rows.PartialWriteReadsTheBlock as partial_write_reads_the_block;
 ghost use Rattle.io_model.specs.Rows.FailedDirectWriteLandsAPrefix as failed_direct_write_lands_a_prefix;
+ghost use Rattle.io_model.specs.Rows.FailedDirectWriteLeavesUnwritten as failed_direct_write_leaves_unwritten;
 ghost use Rattle.io_model.specs.RunText.{run_text};
 
 /// A read of one mapped block gives the block's bytes, and leaves one stamp there.
@@ -49,4 +50,11 @@ pub fn partial_write_reads_the_block()
 pub fn failed_direct_write_lands_a_prefix()
     ensures right { RunIsRight failed_direct_write_lands_a_prefix.script (0 ∷ 0 ∷ []) failed_direct_write_lands_a_prefix.run }
     ensures text { run_text failed_direct_write_lands_a_prefix.script failed_direct_write_lands_a_prefix.run false ≡ failed_direct_write_lands_a_prefix.text }
+{}
+
+/// A direct write that failed leaves unwritten space unwritten, so its bytes are not seen there.
+#[tactic(auto, unfolding(crate::specs::Rows::Parts::printed))]
+pub fn failed_direct_write_leaves_unwritten()
+    ensures right { RunIsRight failed_direct_write_leaves_unwritten.script (0 ∷ 0 ∷ []) failed_direct_write_leaves_unwritten.run }
+    ensures text { run_text failed_direct_write_leaves_unwritten.script failed_direct_write_leaves_unwritten.run false ≡ failed_direct_write_leaves_unwritten.text }
 {}
