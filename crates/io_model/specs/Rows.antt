@@ -6,3 +6,4 @@ pub mod OneBioForThreeDirtyBlocks
 pub mod PartialWriteReadsTheBlock
 pub mod FailedDirectWriteLandsAPrefix
 pub mod FailedDirectWriteLeavesUnwritten
+pub mod RunsOutOfSpace

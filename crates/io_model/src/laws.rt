@@ -8,6 +8,7 @@ ghost use Rattle.io_model.specs.Rows.OneBioForThreeDirtyBlocks as one_bio_for_th
 ghost use Rattle.io_model.specs.Rows.PartialWriteReadsTheBlock as partial_write_reads_the_block;
 ghost use Rattle.io_model.specs.Rows.FailedDirectWriteLandsAPrefix as failed_direct_write_lands_a_prefix;
 ghost use Rattle.io_model.specs.Rows.FailedDirectWriteLeavesUnwritten as failed_direct_write_leaves_unwritten;
+ghost use Rattle.io_model.specs.Rows.RunsOutOfSpace as runs_out_of_space;
 ghost use Rattle.io_model.specs.RunText.{run_text};
 
 /// A read of one mapped block gives the block's bytes, and leaves one stamp there.
@@ -57,4 +58,11 @@ pub fn failed_direct_write_lands_a_prefix()
 pub fn failed_direct_write_leaves_unwritten()
     ensures right { RunIsRight failed_direct_write_leaves_unwritten.script (0 ∷ 0 ∷ []) failed_direct_write_leaves_unwritten.run }
     ensures text { run_text failed_direct_write_leaves_unwritten.script failed_direct_write_leaves_unwritten.run false ≡ failed_direct_write_leaves_unwritten.text }
+{}
+
+/// An allocation that finds too little space takes none, and a write stops where the space ends.
+#[tactic(auto, unfolding(crate::specs::Rows::Parts::printed))]
+pub fn runs_out_of_space()
+    ensures right { RunIsRight runs_out_of_space.script (0 ∷ 0 ∷ []) runs_out_of_space.run }
+    ensures text { run_text runs_out_of_space.script runs_out_of_space.run false ≡ runs_out_of_space.text }
 {}
