@@ -7,3 +7,4 @@ pub mod PartialWriteReadsTheBlock
 pub mod FailedDirectWriteLandsAPrefix
 pub mod FailedDirectWriteLeavesUnwritten
 pub mod RunsOutOfSpace
+pub mod EndsAtTheFilesEnd

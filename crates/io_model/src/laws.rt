@@ -9,6 +9,7 @@ ghost use Rattle.io_model.specs.Rows.PartialWriteReadsTheBlock as partial_write_
 ghost use Rattle.io_model.specs.Rows.FailedDirectWriteLandsAPrefix as failed_direct_write_lands_a_prefix;
 ghost use Rattle.io_model.specs.Rows.FailedDirectWriteLeavesUnwritten as failed_direct_write_leaves_unwritten;
 ghost use Rattle.io_model.specs.Rows.RunsOutOfSpace as runs_out_of_space;
+ghost use Rattle.io_model.specs.Rows.EndsAtTheFilesEnd as ends_at_the_files_end;
 ghost use Rattle.io_model.specs.RunText.{run_text};
 
 /// A read of one mapped block gives the block's bytes, and leaves one stamp there.
@@ -65,4 +66,11 @@ pub fn failed_direct_write_leaves_unwritten()
 pub fn runs_out_of_space()
     ensures right { RunIsRight runs_out_of_space.script (0 ∷ 0 ∷ []) runs_out_of_space.run }
     ensures text { run_text runs_out_of_space.script runs_out_of_space.run false ≡ runs_out_of_space.text }
+{}
+
+/// Calls are cut at the file's end, and a write that begins there is refused.
+#[tactic(auto, unfolding(crate::specs::Rows::Parts::printed))]
+pub fn ends_at_the_files_end()
+    ensures right { RunIsRight ends_at_the_files_end.script (0 ∷ 0 ∷ 0 ∷ 0 ∷ 0 ∷ 0 ∷ []) ends_at_the_files_end.run }
+    ensures text { run_text ends_at_the_files_end.script ends_at_the_files_end.run false ≡ ends_at_the_files_end.text }
 {}
