@@ -8,3 +8,4 @@ pub mod FailedDirectWriteLandsAPrefix
 pub mod FailedDirectWriteLeavesUnwritten
 pub mod RunsOutOfSpace
 pub mod EndsAtTheFilesEnd
+pub mod DaxZeroesBeforeItMaps

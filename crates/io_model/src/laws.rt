@@ -10,6 +10,7 @@ ghost use Rattle.io_model.specs.Rows.FailedDirectWriteLandsAPrefix as failed_dir
 ghost use Rattle.io_model.specs.Rows.FailedDirectWriteLeavesUnwritten as failed_direct_write_leaves_unwritten;
 ghost use Rattle.io_model.specs.Rows.RunsOutOfSpace as runs_out_of_space;
 ghost use Rattle.io_model.specs.Rows.EndsAtTheFilesEnd as ends_at_the_files_end;
+ghost use Rattle.io_model.specs.Rows.DaxZeroesBeforeItMaps as dax_zeroes_before_it_maps;
 ghost use Rattle.io_model.specs.RunText.{run_text};
 
 /// A read of one mapped block gives the block's bytes, and leaves one stamp there.
@@ -73,4 +74,11 @@ pub fn runs_out_of_space()
 pub fn ends_at_the_files_end()
     ensures right { RunIsRight ends_at_the_files_end.script (0 ∷ 0 ∷ 0 ∷ 0 ∷ 0 ∷ 0 ∷ []) ends_at_the_files_end.run }
     ensures text { run_text ends_at_the_files_end.script ends_at_the_files_end.run false ≡ ends_at_the_files_end.text }
+{}
+
+/// A write past the page cache zeroes unwritten space before it maps it.
+#[tactic(auto, unfolding(crate::specs::Rows::Parts::printed))]
+pub fn dax_zeroes_before_it_maps()
+    ensures right { RunIsRight dax_zeroes_before_it_maps.script (0 ∷ 0 ∷ 0 ∷ []) dax_zeroes_before_it_maps.run }
+    ensures text { run_text dax_zeroes_before_it_maps.script dax_zeroes_before_it_maps.run false ≡ dax_zeroes_before_it_maps.text }
 {}
