@@ -9,3 +9,4 @@ pub mod FailedDirectWriteLeavesUnwritten
 pub mod RunsOutOfSpace
 pub mod EndsAtTheFilesEnd
 pub mod DaxZeroesBeforeItMaps
+pub mod PunchZeroesPartialEnds

@@ -11,6 +11,7 @@ ghost use Rattle.io_model.specs.Rows.FailedDirectWriteLeavesUnwritten as failed_
 ghost use Rattle.io_model.specs.Rows.RunsOutOfSpace as runs_out_of_space;
 ghost use Rattle.io_model.specs.Rows.EndsAtTheFilesEnd as ends_at_the_files_end;
 ghost use Rattle.io_model.specs.Rows.DaxZeroesBeforeItMaps as dax_zeroes_before_it_maps;
+ghost use Rattle.io_model.specs.Rows.PunchZeroesPartialEnds as punch_zeroes_partial_ends;
 ghost use Rattle.io_model.specs.RunText.{run_text};
 
 /// A read of one mapped block gives the block's bytes, and leaves one stamp there.
@@ -81,4 +82,11 @@ pub fn ends_at_the_files_end()
 pub fn dax_zeroes_before_it_maps()
     ensures right { RunIsRight dax_zeroes_before_it_maps.script (0 ∷ 0 ∷ 0 ∷ []) dax_zeroes_before_it_maps.run }
     ensures text { run_text dax_zeroes_before_it_maps.script dax_zeroes_before_it_maps.run false ≡ dax_zeroes_before_it_maps.text }
+{}
+
+/// A punch gives whole blocks back and zeroes its part of the blocks at its ends.
+#[tactic(auto, unfolding(crate::specs::Rows::Parts::printed))]
+pub fn punch_zeroes_partial_ends()
+    ensures right { RunIsRight punch_zeroes_partial_ends.script (0 ∷ 0 ∷ 0 ∷ 0 ∷ []) punch_zeroes_partial_ends.run }
+    ensures text { run_text punch_zeroes_partial_ends.script punch_zeroes_partial_ends.run false ≡ punch_zeroes_partial_ends.text }
 {}
