@@ -10,3 +10,4 @@ pub mod RunsOutOfSpace
 pub mod EndsAtTheFilesEnd
 pub mod DaxZeroesBeforeItMaps
 pub mod PunchZeroesPartialEnds
+pub mod ClosingSyncFails

@@ -12,6 +12,7 @@ ghost use Rattle.io_model.specs.Rows.RunsOutOfSpace as runs_out_of_space;
 ghost use Rattle.io_model.specs.Rows.EndsAtTheFilesEnd as ends_at_the_files_end;
 ghost use Rattle.io_model.specs.Rows.DaxZeroesBeforeItMaps as dax_zeroes_before_it_maps;
 ghost use Rattle.io_model.specs.Rows.PunchZeroesPartialEnds as punch_zeroes_partial_ends;
+ghost use Rattle.io_model.specs.Rows.ClosingSyncFails as closing_sync_fails;
 ghost use Rattle.io_model.specs.RunText.{run_text};
 
 /// A read of one mapped block gives the block's bytes, and leaves one stamp there.
@@ -89,4 +90,11 @@ pub fn dax_zeroes_before_it_maps()
 pub fn punch_zeroes_partial_ends()
     ensures right { RunIsRight punch_zeroes_partial_ends.script (0 ∷ 0 ∷ 0 ∷ 0 ∷ []) punch_zeroes_partial_ends.run }
     ensures text { run_text punch_zeroes_partial_ends.script punch_zeroes_partial_ends.run false ≡ punch_zeroes_partial_ends.text }
+{}
+
+/// A block whose closing writeback failed stays dirty and unwritten, and its page keeps the bytes.
+#[tactic(auto, unfolding(crate::specs::Rows::Parts::printed))]
+pub fn closing_sync_fails()
+    ensures right { RunIsRight closing_sync_fails.script (0 ∷ []) closing_sync_fails.run }
+    ensures text { run_text closing_sync_fails.script closing_sync_fails.run false ≡ closing_sync_fails.text }
 {}

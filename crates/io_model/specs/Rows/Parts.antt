@@ -5,6 +5,7 @@ use Rattle.iob_base.specs.Layout.{layout}
 use Rattle.iob_base.specs.DeviceBlock.{DeviceBlock, device_block}
 use Rattle.iob_base.specs.declared.answer.Answer.{Answer}
 use Rattle.iob_base.specs.declared.answer.Reply.{Reply}
+use Rattle.iob_base.specs.declared.sector.Page.{Page}
 use Rattle.iob_base.specs.declared.stamp.Mark.TheVariants.{Done, Landed, Missed}
 use Rattle.iob_base.specs.declared.stamp.Mode.TheVariants.{Cached}
 use Rattle.iob_base.specs.declared.stamp.Stamp.{Stamp}
@@ -86,6 +87,10 @@ block_without journal = record { sector = None; dirty = None; journal = journal 
 -- a device block of 16 bytes that has its fill
 abbrev pub filled : ℕ → DeviceBlock
 filled n = device_block n (replicate 16 238)
+
+-- a page of the page cache: its number is 2^64 - 1, since no caller gave it
+abbrev pub cache_page : List ℕ → Page
+cache_page bytes = record { number = 18446744073709551615; bytes = bytes }
 
 -- free blocks, whose bytes no text shows
 abbrev pub free_blocks : List ℕ → List DeviceBlock
