@@ -11,3 +11,4 @@ pub mod EndsAtTheFilesEnd
 pub mod DaxZeroesBeforeItMaps
 pub mod PunchZeroesPartialEnds
 pub mod ClosingSyncFails
+pub mod ShortReadAtAFault

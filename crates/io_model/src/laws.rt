@@ -13,6 +13,7 @@ ghost use Rattle.io_model.specs.Rows.EndsAtTheFilesEnd as ends_at_the_files_end;
 ghost use Rattle.io_model.specs.Rows.DaxZeroesBeforeItMaps as dax_zeroes_before_it_maps;
 ghost use Rattle.io_model.specs.Rows.PunchZeroesPartialEnds as punch_zeroes_partial_ends;
 ghost use Rattle.io_model.specs.Rows.ClosingSyncFails as closing_sync_fails;
+ghost use Rattle.io_model.specs.Rows.ShortReadAtAFault as short_read_at_a_fault;
 ghost use Rattle.io_model.specs.RunText.{run_text};
 
 /// A read of one mapped block gives the block's bytes, and leaves one stamp there.
@@ -97,4 +98,11 @@ pub fn punch_zeroes_partial_ends()
 pub fn closing_sync_fails()
     ensures right { RunIsRight closing_sync_fails.script (0 ∷ []) closing_sync_fails.run }
     ensures text { run_text closing_sync_fails.script closing_sync_fails.run false ≡ closing_sync_fails.text }
+{}
+
+/// A read that meets a fault counts the bytes before it, and stamps only their blocks.
+#[tactic(auto, unfolding(crate::specs::Rows::Parts::printed))]
+pub fn short_read_at_a_fault()
+    ensures right { RunIsRight short_read_at_a_fault.script (0 ∷ []) short_read_at_a_fault.run }
+    ensures text { run_text short_read_at_a_fault.script short_read_at_a_fault.run false ≡ short_read_at_a_fault.text }
 {}
