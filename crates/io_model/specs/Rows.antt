@@ -12,3 +12,4 @@ pub mod DaxZeroesBeforeItMaps
 pub mod PunchZeroesPartialEnds
 pub mod ClosingSyncFails
 pub mod ShortReadAtAFault
+pub mod TwoDirectWritesInOnePhase

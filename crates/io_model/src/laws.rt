@@ -14,6 +14,7 @@ ghost use Rattle.io_model.specs.Rows.DaxZeroesBeforeItMaps as dax_zeroes_before_
 ghost use Rattle.io_model.specs.Rows.PunchZeroesPartialEnds as punch_zeroes_partial_ends;
 ghost use Rattle.io_model.specs.Rows.ClosingSyncFails as closing_sync_fails;
 ghost use Rattle.io_model.specs.Rows.ShortReadAtAFault as short_read_at_a_fault;
+ghost use Rattle.io_model.specs.Rows.TwoDirectWritesInOnePhase as two_direct_writes_in_one_phase;
 ghost use Rattle.io_model.specs.RunText.{run_text};
 
 /// A read of one mapped block gives the block's bytes, and leaves one stamp there.
@@ -105,4 +106,18 @@ pub fn closing_sync_fails()
 pub fn short_read_at_a_fault()
     ensures right { RunIsRight short_read_at_a_fault.script (0 ∷ []) short_read_at_a_fault.run }
     ensures text { run_text short_read_at_a_fault.script short_read_at_a_fault.run false ≡ short_read_at_a_fault.text }
+{}
+
+/// Two callers write one block in one phase: where the first write is first, the second one's bytes stay.
+#[tactic(auto, unfolding(crate::specs::Rows::Parts::printed))]
+pub fn two_direct_writes_in_one_phase()
+    ensures right { RunIsRight two_direct_writes_in_one_phase.script two_direct_writes_in_one_phase.makers two_direct_writes_in_one_phase.run }
+    ensures text { run_text two_direct_writes_in_one_phase.script two_direct_writes_in_one_phase.run false ≡ two_direct_writes_in_one_phase.text }
+{}
+
+/// In the other order the first write's bytes stay, and the run is as right.
+#[tactic(auto, unfolding(crate::specs::Rows::Parts::printed))]
+pub fn two_direct_writes_in_the_other_order()
+    ensures right { RunIsRight two_direct_writes_in_one_phase.script two_direct_writes_in_one_phase.makers two_direct_writes_in_one_phase.other_run }
+    ensures text { run_text two_direct_writes_in_one_phase.script two_direct_writes_in_one_phase.other_run false ≡ two_direct_writes_in_one_phase.other_text }
 {}
