@@ -13,3 +13,5 @@ pub mod PunchZeroesPartialEnds
 pub mod ClosingSyncFails
 pub mod ShortReadAtAFault
 pub mod TwoDirectWritesInOnePhase
+pub mod WrongRuns
+pub mod Flaws

@@ -17,6 +17,8 @@ ghost use Rattle.io_model.specs.Rows.ShortReadAtAFault as short_read_at_a_fault;
 ghost use Rattle.io_model.specs.Rows.TwoDirectWritesInOnePhase as two_direct_writes_in_one_phase;
 ghost use Rattle.io_model.specs.RunText.{run_text};
 
+mod refusals;
+
 /// A read of one mapped block gives the block's bytes, and leaves one stamp there.
 #[tactic(auto, unfolding(crate::specs::Rows::Parts::printed))]
 pub fn reads_one_mapped_block()

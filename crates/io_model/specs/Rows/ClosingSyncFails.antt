@@ -2,7 +2,7 @@ use Rattle.std.specs.Prelude.{ℕ, List, [], ◌∷◌, Some, codes, replicate}
 use Rattle.iob_base.specs.declared.answer.Fault.TheVariants.{SyncEio}
 use Rattle.iob_base.specs.declared.answer.Reply.TheVariants.{Ok, Err}
 use Rattle.iob_base.specs.declared.answer.Stop.TheVariants.{Whole}
-use Rattle.io_model.specs.Rows.Parts.{small, cached, cache_page, extent, call, answer, ended, done, block_with, filled, free_blocks, lane, outer_lanes}
+use Rattle.io_model.specs.Rows.Parts.{small, cached, cache_page, extent, call, answer, ended, done, filled, free_blocks, lane, outer_lanes}
 use Rattle.io_model.specs.Text.{◌⋅◌}
 use Rattle.io_model.specs.declared.file.Kind.TheVariants.{Unwritten}
 use Rattle.io_model.specs.declared.script.Script.{Script}

@@ -68,6 +68,9 @@ returned pages got reply bios = record { answer = answer reply bios; got = got; 
 abbrev pub done_by : ℕ → ℕ → Stamp
 done_by caller call = record { caller = caller; call = call; mark = Done }
 
+abbrev pub missed_by : ℕ → ℕ → Stamp
+missed_by caller call = record { caller = caller; call = call; mark = Missed }
+
 -- stamps of the first pass, whose number is 0
 abbrev pub done : ℕ → Stamp
 done call = done_by 0 call
@@ -76,7 +79,7 @@ abbrev pub landed : ℕ → Stamp
 landed call = record { caller = 0; call = call; mark = Landed }
 
 abbrev pub missed : ℕ → Stamp
-missed call = record { caller = 0; call = call; mark = Missed }
+missed call = missed_by 0 call
 
 abbrev pub block_with : DeviceBlock → List Stamp → BlockEnd
 block_with sector journal = record { sector = Some sector; dirty = None; journal = journal }
