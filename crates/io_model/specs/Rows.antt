@@ -15,3 +15,5 @@ pub mod ShortReadAtAFault
 pub mod TwoDirectWritesInOnePhase
 pub mod WrongRuns
 pub mod Flaws
+pub mod UnalignedDirectCallsAreRefused
+pub mod PrintsTheImage

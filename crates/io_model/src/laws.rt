@@ -1,5 +1,5 @@
 //! The definitions, tried on runs that can be checked by hand.
-ghost use Rattle.std.specs.Prelude.{◌≡◌, [], ◌∷◌, false};
+ghost use Rattle.std.specs.Prelude.{◌≡◌, [], ◌∷◌, true, false, codes};
 ghost use Rattle.io_model.specs.Right.{RunIsRight};
 ghost use Rattle.io_model.specs.Rows.ReadsOneMappedBlock as reads_one_mapped_block;
 ghost use Rattle.io_model.specs.Rows.HoleAndUnwrittenReadZeros as hole_and_unwritten_read_zeros;
@@ -15,7 +15,9 @@ ghost use Rattle.io_model.specs.Rows.PunchZeroesPartialEnds as punch_zeroes_part
 ghost use Rattle.io_model.specs.Rows.ClosingSyncFails as closing_sync_fails;
 ghost use Rattle.io_model.specs.Rows.ShortReadAtAFault as short_read_at_a_fault;
 ghost use Rattle.io_model.specs.Rows.TwoDirectWritesInOnePhase as two_direct_writes_in_one_phase;
-ghost use Rattle.io_model.specs.RunText.{run_text};
+ghost use Rattle.io_model.specs.Rows.UnalignedDirectCallsAreRefused as unaligned_direct_calls_are_refused;
+ghost use Rattle.io_model.specs.Rows.PrintsTheImage as prints_the_image;
+ghost use Rattle.io_model.specs.RunText.{run_text, page_runs, runs_text};
 
 mod refusals;
 
@@ -122,4 +124,26 @@ pub fn two_direct_writes_in_one_phase()
 pub fn two_direct_writes_in_the_other_order()
     ensures right { RunIsRight two_direct_writes_in_one_phase.script two_direct_writes_in_one_phase.makers two_direct_writes_in_one_phase.other_run }
     ensures text { run_text two_direct_writes_in_one_phase.script two_direct_writes_in_one_phase.other_run false ≡ two_direct_writes_in_one_phase.other_text }
+{}
+
+/// A direct call whose offset or segment is no multiple of the block size leaves no stamp, and its pages come back.
+#[tactic(auto, unfolding(crate::specs::Rows::Parts::printed))]
+pub fn unaligned_direct_calls_are_refused()
+    ensures right { RunIsRight unaligned_direct_calls_are_refused.script (0 ∷ 0 ∷ []) unaligned_direct_calls_are_refused.run }
+    ensures text { run_text unaligned_direct_calls_are_refused.script unaligned_direct_calls_are_refused.run false ≡ unaligned_direct_calls_are_refused.text }
+{}
+
+/// With the image the bytes of mapped blocks stand between the extents and the free blocks.
+#[tactic(auto, unfolding(crate::specs::Rows::Parts::printed))]
+pub fn prints_the_image()
+    ensures { run_text write_into_unwritten_converts_at_close.script write_into_unwritten_converts_at_close.run true ≡ prints_the_image.text }
+{}
+
+/// Pages in their places are one run, pages out of place are more, and no pages are the first number and none.
+#[tactic(auto, unfolding(crate::specs::Rows::Parts::printed))]
+pub fn prints_pages_as_runs()
+    ensures in_place { runs_text 2 (page_runs (2 ∷ 3 ∷ 4 ∷ [])) [] ≡ codes "2+3" }
+    ensures one_missing { runs_text 2 (page_runs (2 ∷ 4 ∷ [])) [] ≡ codes "2+1,4+1" }
+    ensures swapped { runs_text 2 (page_runs (3 ∷ 2 ∷ 4 ∷ 5 ∷ [])) [] ≡ codes "3+1,2+1,4+2" }
+    ensures none { runs_text 2 (page_runs []) [] ≡ codes "2+0" }
 {}
