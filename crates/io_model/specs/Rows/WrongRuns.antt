@@ -3,6 +3,7 @@ use Rattle.std.specs.List.{range_with_len}
 use Rattle.iob_base.specs.declared.answer.Fault.TheVariants.{Eio}
 use Rattle.iob_base.specs.declared.answer.Reply.TheVariants.{Ok, Err}
 use Rattle.iob_base.specs.declared.answer.Stop.TheVariants.{Whole}
+use Rattle.iob_base.specs.declared.stamp.Stamp.{Stamp}
 use Rattle.io_model.specs.Rows.ClosingSyncFails
 use Rattle.io_model.specs.Rows.FailedDirectWriteLandsAPrefix
 use Rattle.io_model.specs.Rows.HoleAndUnwrittenReadZeros
@@ -18,7 +19,6 @@ use Rattle.io_model.specs.declared.file.FileEnd.{FileEnd}
 use Rattle.io_model.specs.declared.file.Kind.TheVariants.{Hole, Mapped}
 use Rattle.io_model.specs.declared.run.CallEnd.{CallEnd}
 use Rattle.io_model.specs.declared.run.Run.{Run}
-use Rattle.iob_base.specs.declared.stamp.Stamp.{Stamp}
 
 -- right runs of one file, each with one thing wrong
 
