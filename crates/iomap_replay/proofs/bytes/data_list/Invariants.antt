@@ -1,0 +1,9 @@
+use Rattle.std.proofs.Common.{◌≡◌, ℕ, List, Some, Bor, drop, map}
+use Rattle.std.specs.List.{fold}
+use Rattle.iomap_replay.specs.OnePread.{more_data, data_blocks}
+use Rattle.iomap_replay.specs.Words.{words}
+use Rattle.iomap_replay.proofs.bytes.data_list.Given as goal
+
+abbrev pub invariant-loop-line : goal.invariant-loop-line
+invariant-loop-line l =
+    fold (more_data l.device) (Some l.given.items) (map (λ line. words line.now) (drop l.line-index l.lines)) ≡ data_blocks l.device (map (λ line. words line.now) l.lines)

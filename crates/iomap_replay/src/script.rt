@@ -1,0 +1,149 @@
+//! The script of a text of the one form that is read.
+ghost use Rattle.std.specs.Prelude.{◌≡◌, IfOk, IsTrue, length, map};
+ghost use Rattle.std.specs.Option.{option_map};
+ghost use Rattle.iob_base.specs.Geometry.{is_block_size, is_folio_blocks};
+ghost use Rattle.iob_base.specs.Layout.{layout};
+ghost use Rattle.iomap_replay.specs.OnePread.{head_of, tail_of, shape_of, is_in_one_block, script_with, script_of_lines, script_of};
+ghost use Rattle.iomap_replay.specs.Words.{words};
+
+use crate::bytes::data_list;
+use crate::lines::{
+    Asked, Device, device_line, extent_line, file_line, folio_line, is_header_line, is_phase_line,
+    pread_line,
+};
+use crate::words::{has_end, lines_of};
+use io_model::{Call, Extent, FileSpec, Script, Verb};
+use iob_base::{FileId, Geometry, Items, Mode};
+use std::alloc::{AllocError, Global};
+
+/// How many bytes a script may have.
+pub const TEXT_LIMIT: usize = 16777216;
+
+/// All but the data lines.
+type Shape<'a> = (Device, Geometry, (&'a [u8], u64), Extent, Asked);
+
+/// Whether the range lies in the extent and in one block.
+fn lies_in_one_block(block_size: u32, extent: &Extent, asked: &Asked) -> bool
+    requires { IsTrue (is_block_size block_size) }
+    ensures { result ≡ is_in_one_block block_size extent.now asked.now }
+{
+    let size = u64::from(block_size);
+    let block = asked.off / size;
+    if block < extent.block || block - extent.block >= extent.length {
+        return false;
+    }
+    asked.length <= size && asked.off % size + asked.length <= size
+}
+
+/// The geometry of sizes that were tried already.
+fn geometry_of(block_size: u32, folio: u32) -> Geometry
+    requires size { IsTrue (is_block_size block_size) }
+    requires blocks { IsTrue (is_folio_blocks folio) }
+    ensures { result ≡ layout block_size folio }
+{
+    Geometry::new(block_size, folio).unwrap()
+}
+
+/// The first three lines: the header, the device and the blocks of a folio.
+fn head(header: &[u8], device: &[u8], folio: &[u8]) -> Option<(Device, Geometry)>
+    ensures { result ≡ head_of (words header.now) (words device.now) (words folio.now) }
+{
+    if !is_header_line(header) {
+        return None;
+    }
+    let device = device_line(device)?;
+    let folio = folio_line(folio)?;
+    Some((device, geometry_of(device.block_size, folio)))
+}
+
+/// The last four lines: the file, its extent, the phase and the read.
+fn tail<'a>(device: Device, file: &'a [u8], extent: &[u8], phase: &[u8], call: &[u8]) -> Option<((&'a [u8], u64), Extent, Asked)>
+    requires { IsTrue (is_block_size device.block_size) }
+    ensures {
+        option_map (λ t. ((t.0.0.now, t.0.1), t.1, t.2)) result
+          ≡ tail_of device (words file.now) (words extent.now) (words phase.now) (words call.now)
+    }
+{
+    let (name, blocks) = file_line(file)?;
+    let extent = extent_line(name, blocks, device.blocks, extent)?;
+    if !is_phase_line(phase) {
+        return None;
+    }
+    let asked = pread_line(name, call)?;
+    if !lies_in_one_block(device.block_size, &extent, &asked) {
+        return None;
+    }
+    Some(((name, blocks), extent, asked))
+}
+
+/// All but the data lines, of which there are as many as lines beyond seven.
+fn shape<'a>(lines: &[&'a [u8]]) -> Option<Shape<'a>>
+    ensures { option_map (λ s. (s.0, s.1, (s.2.0.now, s.2.1), s.3, s.4)) result ≡ shape_of (map (λ line. words line.now) lines.now) }
+{
+    if lines.len() < 7 {
+        return None;
+    }
+    let n = lines.len() - 7;
+    let (device, geometry) = head(lines[0], lines[1], lines[2])?;
+    let (file, extent, asked) = tail(device, lines[n + 3], lines[n + 4], lines[n + 5], lines[n + 6])?;
+    Some((device, geometry, file, extent, asked))
+}
+
+/// The script that these lines say. Want of memory is the only error.
+fn assemble(alloc: Global, shape: Shape<'_>, blocks: Vec<(u32, Items<u8>)>) -> Result<Script, AllocError>
+    ensures { IfOk result (λ script. script ≡ script_with (shape.entry.0, shape.entry.1, (shape.entry.2.0.now, shape.entry.2.1), shape.entry.3, shape.entry.4) blocks.items) }
+{
+    let (device, geometry, (name, count), extent, asked) = shape;
+    let extents = vec![in alloc; extent]?;
+    let file = FileSpec {
+        mode: Mode::Cached,
+        blocks: count,
+        extents: Items::from_vec(extents),
+    };
+    let call = Call {
+        phase: 1,
+        caller: 0,
+        file: FileId(0),
+        first_page: 0,
+        verb: Verb::Pread {
+            off: asked.off,
+            lengths: Items::from_vec(vec![in alloc; asked.length]?),
+        },
+    };
+    Ok(Script {
+        geometry,
+        device_blocks: device.blocks,
+        fill: device.fill,
+        blocks: Items::from_vec(blocks),
+        names: Items::from_vec(vec![in alloc; Items::from_slice(alloc, name)?]?),
+        files: Items::from_vec(vec![in alloc; file]?),
+        faults: Items::new(alloc),
+        calls: Items::from_vec(vec![in alloc; call]?),
+    })
+}
+
+/// The script of the kept lines of a text. Want of memory is the only error.
+fn script_from_lines(alloc: Global, lines: &[&[u8]]) -> Result<Option<Script>, AllocError>
+    ensures { IfOk result (λ script. script ≡ script_of_lines (map (λ line. words line.now) lines.now)) }
+{
+    let Some(shape) = shape(lines) else {
+        return Ok(None);
+    };
+    let datas = &lines[3..lines.len() - 4];
+    match data_list(alloc, &shape.0, datas)? {
+        None => Ok(None),
+        Some(given) => Ok(Some(assemble(alloc, shape, given)?)),
+    }
+}
+
+/// The script of a text of the one form that is read, and `None` for every other text. Want of memory
+/// is the only error.
+pub fn read_script(alloc: Global, text: &[u8]) -> Result<Option<Script>, AllocError>
+    ensures { IfOk result (λ script. script ≡ script_of text.now) }
+{
+    if text.len() > TEXT_LIMIT || !has_end(text) {
+        return Ok(None);
+    }
+    let lines = lines_of(alloc, text)?;
+    script_from_lines(alloc, &lines)
+}
