@@ -1,0 +1,4 @@
+pub mod Appended
+pub mod Digits
+pub mod Ended
+pub mod Runs

@@ -1,0 +1,10 @@
+//! The printed form of a run.
+#![tactic(auto)]
+
+mod calls;
+mod files;
+mod hexadecimal;
+mod pages;
+mod pieces;
+mod reply;
+mod run;
