@@ -4,6 +4,7 @@
 mod calls;
 mod files;
 mod hexadecimal;
+mod image;
 mod pages;
 mod pieces;
 mod reply;
