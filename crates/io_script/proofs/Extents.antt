@@ -6,11 +6,14 @@ use Rattle.std.proofs.lemmas.List.{nil_from_length}
 use Rattle.std.specs.List.{list_all}
 use Rattle.iob_base.specs.DeviceBlock.{DeviceBlock}
 use Rattle.iob_base.specs.declared.sector.Page.{Page}
-use Rattle.io_model.specs.Fitting.{is_merged_from, could_be_joined}
+use Rattle.io_model.specs.Fitting.{is_file_end, is_merged_from, could_be_joined}
 use Rattle.io_model.specs.Kinds.{covers, kind_after, kind_at, mapped_number}
+use Rattle.io_model.specs.Lists.{both_from}
 use Rattle.io_model.specs.RunText.{image_line, image_lines}
 use Rattle.io_model.specs.declared.file.BlockEnd.{BlockEnd}
 use Rattle.io_model.specs.declared.file.Extent.{Extent}
+use Rattle.io_model.specs.declared.file.FileEnd.{FileEnd}
+use Rattle.io_model.specs.declared.file.FileSpec.{FileSpec}
 use Rattle.io_model.specs.declared.file.Kind.{Kind}
 use Rattle.io_model.specs.declared.file.Kind.TheVariants.{Hole, Delalloc, Unwritten, Mapped}
 use Rattle.io_script.specs.Image.{mapped_lines, lines_of_kind}
@@ -102,8 +105,22 @@ image_lines-part name e es first n left rest merged =
 pub merged_none : (first : ℕ) (left : List BlockEnd) → IsTrue (is_merged_from first (first + length left) []) → left ≡ []
 merged_none first left merged = let ends = eqb-true first (first + length left) merged in nil_from_length left (omega arith)
 
--- what each item passes, an item of the list passes
-pub passes_at : {A : Type 0} (p : A → Bool) (xs : List A) (i : ℕ) (d : A) → i < length xs → IsTrue (list_all p xs) → IsTrue (p (get_or xs i d))
-passes_at p [] i d h all = absurd (omega (arith, h))
-passes_at p (x ∷ xs) zero d h all = and_left (p x) _ all
-passes_at p (x ∷ xs) (suc i) d h all = passes_at p xs i d (omega (arith, h)) (and_right (p x) _ all)
+and_both : (a b : Bool) → IsTrue a → IsTrue b → IsTrue (a && b)
+and_both true b ha hb = hb
+and_both false b ha hb = ha
+
+merged_file : (size : ℕ) (file : FileSpec) (end : FileEnd) → IsTrue (is_file_end size file end) → IsTrue (is_merged_from 0 (length end.blocks) end.extents)
+merged_file size file end h =
+    let count = eqb-true (length end.blocks) file.blocks (and_left _ _ h) in
+    let rest = and_right (length end.blocks == file.blocks) _ h in
+    ap (λ n. is_merged_from 0 n end.extents) count ∙ and_left (is_merged_from 0 file.blocks end.extents) _ rest
+
+-- the extents of each file of a run that fits are merged, and cover its blocks
+pub merged_files : (size f : ℕ) (files : List FileSpec) (ends : List FileEnd) → IsTrue (both_from (λ f file end. is_file_end size file end) f files ends)
+    → IsTrue (list_all (λ end. is_merged_from 0 (length end.blocks) end.extents) ends)
+merged_files size f [] [] h = refl
+merged_files size f [] (end ∷ ends) h = absurd (false≢true h)
+merged_files size f (file ∷ files) [] h = refl
+merged_files size f (file ∷ files) (end ∷ ends) h =
+    and_both _ _ (merged_file size file end (and_left (is_file_end size file end) _ h))
+    (merged_files size (f + 1) files ends (and_right (is_file_end size file end) _ h))

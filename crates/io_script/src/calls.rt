@@ -51,7 +51,11 @@ fn append_close(text: &mut Vec<u8>, name: &[u8], close: Answer) -> Result<(), Al
 }
 
 /// The lines of the closes.
-pub fn append_closes(text: &mut Vec<u8>, names: &[Items<u8>], closes: &[Answer]) -> Result<(), AllocError>
+pub fn append_closes(
+    text: &mut Vec<u8>,
+    names: &[Items<u8>],
+    closes: &[Answer],
+) -> Result<(), AllocError>
     ensures { OnOk result (Appends (close_lines names.now closes.now) text.old.items text.new.items) }
 {
     let both = names.len().min(closes.len());

@@ -2,7 +2,15 @@
 ghost use Rattle.std.specs.Prelude.{◌≡◌, ◌++◌, decimal, codes, OnOk};
 ghost use Rattle.io_model.specs.ReplyText.{hex_text};
 ghost use Rattle.io_model.specs.RunText.{
-    dirty_line, dirty_lines, journal_line, journal_lines, map_line, map_lines, map_start, mark_text, stamps_text,
+  dirty_line,
+  dirty_lines,
+  journal_line,
+  journal_lines,
+  map_line,
+  map_lines,
+  map_start,
+  mark_text,
+  stamps_text,
 };
 ghost use Rattle.io_script.specs.Appending.{Appends};
 
@@ -51,7 +59,12 @@ fn append_stamps(text: &mut Vec<u8>, stamps: &[Stamp]) -> Result<(), AllocError>
 }
 
 /// The journal of a block, where it has stamps.
-fn append_journal(text: &mut Vec<u8>, name: &[u8], b: u64, stamps: &[Stamp]) -> Result<(), AllocError>
+fn append_journal(
+    text: &mut Vec<u8>,
+    name: &[u8],
+    b: u64,
+    stamps: &[Stamp],
+) -> Result<(), AllocError>
     ensures { OnOk result (Appends (journal_line name.now b stamps.now) text.old.items text.new.items) }
 {
     if stamps.is_empty() {
@@ -63,7 +76,11 @@ fn append_journal(text: &mut Vec<u8>, name: &[u8], b: u64, stamps: &[Stamp]) -> 
 }
 
 /// The journals of a file's blocks.
-pub fn append_journals(text: &mut Vec<u8>, name: &[u8], blocks: &[BlockEnd]) -> Result<(), AllocError>
+pub fn append_journals(
+    text: &mut Vec<u8>,
+    name: &[u8],
+    blocks: &[BlockEnd],
+) -> Result<(), AllocError>
     ensures { OnOk result (Appends (journal_lines name.now 0 blocks.now) text.old.items text.new.items) }
 {
     for b in 0..blocks.len() {
@@ -81,7 +98,13 @@ fn append_map_start(text: &mut Vec<u8>, name: &[u8], extent: Extent) -> Result<(
 }
 
 /// An extent that has space, and the number of its first block on the device.
-fn append_mapping(text: &mut Vec<u8>, name: &[u8], extent: Extent, kind: &[u8], number: u32) -> Result<(), AllocError>
+fn append_mapping(
+    text: &mut Vec<u8>,
+    name: &[u8],
+    extent: Extent,
+    kind: &[u8],
+    number: u32,
+) -> Result<(), AllocError>
     ensures { OnOk result (Appends (λ rest. map_start name.now extent (kind.now ++ (decimal number ++ (codes "\n" ++ rest)))) text.old.items text.new.items) }
 {
     append_map_start(text, name, extent)?;
@@ -115,10 +138,14 @@ pub fn append_extents(text: &mut Vec<u8>, name: &[u8], extents: &[Extent]) -> Re
 }
 
 /// A line of a block's bytes.
-pub fn append_bytes(text: &mut Vec<u8>, word: &[u8], name: &[u8], b: u64, bytes: &[u8]) -> Result<(), AllocError>
-    ensures {
-        OnOk result (Appends (λ rest. word.now ++ (name.now ++ (codes " " ++ (decimal b ++ (codes " " ++ (hex_text bytes.now ++ (codes "\n" ++ rest))))))) text.old.items text.new.items)
-    }
+pub fn append_bytes(
+    text: &mut Vec<u8>,
+    word: &[u8],
+    name: &[u8],
+    b: u64,
+    bytes: &[u8],
+) -> Result<(), AllocError>
+    ensures { OnOk result (Appends (λ rest. word.now ++ (name.now ++ (codes " " ++ (decimal b ++ (codes " " ++ (hex_text bytes.now ++ (codes "\n" ++ rest))))))) text.old.items text.new.items) }
 {
     append_place(text, word, name, b)?;
     append_word(text, b" ")?;
@@ -127,7 +154,12 @@ pub fn append_bytes(text: &mut Vec<u8>, word: &[u8], name: &[u8], b: u64, bytes:
 }
 
 /// The page of a block, where that is dirty.
-fn append_dirty(text: &mut Vec<u8>, name: &[u8], b: u64, dirty: &Option<Page>) -> Result<(), AllocError>
+fn append_dirty(
+    text: &mut Vec<u8>,
+    name: &[u8],
+    b: u64,
+    dirty: &Option<Page>,
+) -> Result<(), AllocError>
     ensures { OnOk result (Appends (dirty_line name.now b dirty.now) text.old.items text.new.items) }
 {
     match dirty {
@@ -137,7 +169,11 @@ fn append_dirty(text: &mut Vec<u8>, name: &[u8], b: u64, dirty: &Option<Page>) -
 }
 
 /// The dirty blocks of a file.
-pub fn append_dirty_blocks(text: &mut Vec<u8>, name: &[u8], blocks: &[BlockEnd]) -> Result<(), AllocError>
+pub fn append_dirty_blocks(
+    text: &mut Vec<u8>,
+    name: &[u8],
+    blocks: &[BlockEnd],
+) -> Result<(), AllocError>
     ensures { OnOk result (Appends (dirty_lines name.now 0 blocks.now) text.old.items text.new.items) }
 {
     for b in 0..blocks.len() {

@@ -10,7 +10,12 @@ use io_model::{BlockEnd, Extent, Kind};
 use std::alloc::AllocError;
 
 /// A mapped block, where it is not dirty.
-fn append_mapped_block(text: &mut Vec<u8>, name: &[u8], b: u64, block: &BlockEnd) -> Result<(), AllocError>
+fn append_mapped_block(
+    text: &mut Vec<u8>,
+    name: &[u8],
+    b: u64,
+    block: &BlockEnd,
+) -> Result<(), AllocError>
     ensures { OnOk result (Appends (image_line name.now b (Some 0) block.now.dirty block.now.sector) text.old.items text.new.items) }
 {
     if block.dirty.is_some() {
@@ -23,7 +28,12 @@ fn append_mapped_block(text: &mut Vec<u8>, name: &[u8], b: u64, block: &BlockEnd
 }
 
 /// Mapped blocks, of which the first is block `first`.
-fn append_mapped(text: &mut Vec<u8>, name: &[u8], first: u64, blocks: &[BlockEnd]) -> Result<(), AllocError>
+fn append_mapped(
+    text: &mut Vec<u8>,
+    name: &[u8],
+    first: u64,
+    blocks: &[BlockEnd],
+) -> Result<(), AllocError>
     requires { first + length blocks.now < 2 ^ 64 }
     ensures { OnOk result (Appends (mapped_lines name.now first blocks.now) text.old.items text.new.items) }
 {
@@ -34,7 +44,13 @@ fn append_mapped(text: &mut Vec<u8>, name: &[u8], first: u64, blocks: &[BlockEnd
 }
 
 /// The blocks of an extent of this kind, of which the first is block `first`.
-fn append_kind(text: &mut Vec<u8>, name: &[u8], kind: Kind, first: u64, blocks: &[BlockEnd]) -> Result<(), AllocError>
+fn append_kind(
+    text: &mut Vec<u8>,
+    name: &[u8],
+    kind: Kind,
+    first: u64,
+    blocks: &[BlockEnd],
+) -> Result<(), AllocError>
     requires { first + length blocks.now < 2 ^ 64 }
     ensures { OnOk result (Appends (lines_of_kind kind name.now first blocks.now) text.old.items text.new.items) }
 {
@@ -45,7 +61,12 @@ fn append_kind(text: &mut Vec<u8>, name: &[u8], kind: Kind, first: u64, blocks: 
 }
 
 /// The image lines of a file.
-pub fn append_image(text: &mut Vec<u8>, name: &[u8], extents: &[Extent], blocks: &[BlockEnd]) -> Result<(), AllocError>
+pub fn append_image(
+    text: &mut Vec<u8>,
+    name: &[u8],
+    extents: &[Extent],
+    blocks: &[BlockEnd],
+) -> Result<(), AllocError>
     requires { IsTrue (is_merged_from 0 (length blocks.now) extents.now) }
     ensures { OnOk result (Appends (image_lines name.now extents.now 0 blocks.now) text.old.items text.new.items) }
 {

@@ -1,4 +1,4 @@
-//! The printed form of a run.
+//! The printed form of a run: one text for one run.
 #![tactic(auto)]
 
 mod calls;
@@ -9,3 +9,5 @@ mod pages;
 mod pieces;
 mod reply;
 mod run;
+
+pub use run::print_run;

@@ -34,7 +34,13 @@ pub fn verb_word(verb: &Verb) -> &'static [u8]
 fn append_segment(text: &mut Vec<u8>, index: u32, length: u64) -> Result<(), AllocError>
     ensures { OnOk result (Appends (fault_text (Fault.NotAligned (Alignment.Segment index length))) text.old.items text.new.items) }
 {
-    append_pair(text, b"EINVAL segment ", u64::from(index), b" length ", length)
+    append_pair(
+        text,
+        b"EINVAL segment ",
+        u64::from(index),
+        b" length ",
+        length,
+    )
 }
 
 /// What of a direct call does not fit the block size.
@@ -52,19 +58,35 @@ fn append_fault(text: &mut Vec<u8>, fault: Fault) -> Result<(), AllocError>
     ensures { OnOk result (Appends (fault_text fault) text.old.items text.new.items) }
 {
     match fault {
-        Fault::Eio { lane, before, after } => append_eio(text, lane, before, after),
+        Fault::Eio {
+            lane,
+            before,
+            after,
+        } => append_eio(text, lane, before, after),
         Fault::SyncEio { seen, count } => append_pair(text, b"EIO seen ", seen, b" count ", count),
         Fault::Again(_) => text.extend_from_slice(b"EAGAIN"),
         Fault::NoMemory => text.extend_from_slice(b"ENOMEM"),
         Fault::NotAligned(part) => append_alignment(text, part),
         Fault::TooFar { offset, end } => append_pair(text, b"EFBIG offset ", offset, b" end ", end),
-        Fault::NoSpace { wanted, found } => append_pair(text, b"ENOSPC wanted ", wanted, b" found ", found),
+        Fault::NoSpace { wanted, found } => append_pair(
+            text,
+            b"ENOSPC wanted ",
+            wanted,
+            b" found ",
+            found,
+        ),
         Fault::Worn { cookie } => append_counted(text, b"EOVERFLOW cookie ", cookie),
     }
 }
 
 /// Two words, each with its number.
-fn append_pair(text: &mut Vec<u8>, word: &[u8], number: u64, more: &[u8], another: u64) -> Result<(), AllocError>
+fn append_pair(
+    text: &mut Vec<u8>,
+    word: &[u8],
+    number: u64,
+    more: &[u8],
+    another: u64,
+) -> Result<(), AllocError>
     ensures { OnOk result (Appends (λ rest. word.now ++ (decimal number ++ (more.now ++ (decimal another ++ rest)))) text.old.items text.new.items) }
 {
     append_counted(text, word, number)?;
@@ -97,7 +119,10 @@ fn append_stop(text: &mut Vec<u8>, stop: Stop) -> Result<(), AllocError>
 fn reads(verb: &Verb) -> bool
     ensures { result ≡ is_read verb.now }
 {
-    matches!(verb, Verb::Pread { .. } | Verb::Dread { .. } | Verb::Xread { .. })
+    matches!(
+        verb,
+        Verb::Pread { .. } | Verb::Dread { .. } | Verb::Xread { .. }
+    )
 }
 
 /// Whether a verb moves whole pages of its caller.
@@ -130,7 +155,12 @@ fn append_sent(text: &mut Vec<u8>, verb: &Verb, sent: u64) -> Result<(), AllocEr
 }
 
 /// A reply, with the bytes that a read gave.
-pub fn append_reply(text: &mut Vec<u8>, verb: &Verb, reply: Reply, got: &[u8]) -> Result<(), AllocError>
+pub fn append_reply(
+    text: &mut Vec<u8>,
+    verb: &Verb,
+    reply: Reply,
+    got: &[u8],
+) -> Result<(), AllocError>
     ensures { OnOk result (Appends (reply_text verb.now reply got.now) text.old.items text.new.items) }
 {
     match reply {

@@ -10,4 +10,4 @@ returns c =
     let calls = c.args.calls.now in
     let ends = c.args.ends.now in
     appends_whole (call_lines 1 calls ends) (call_lines (i + 1) (drop i calls) (drop i ends)) _ _ c.loop-i.invariant
-      (λ rest. call_lines-ended (i + 1) i calls ends rest (omega arith))
+    (λ rest. call_lines-ended (i + 1) i calls ends rest (omega arith))

@@ -10,4 +10,4 @@ returns c =
     let names = c.args.names.now in
     let closes = c.args.closes.now in
     appends_whole (close_lines names closes) (close_lines (drop i names) (drop i closes)) _ _ c.loop-i.invariant
-      (λ rest. close_lines-ended i names closes rest (omega arith))
+    (λ rest. close_lines-ended i names closes rest (omega arith))

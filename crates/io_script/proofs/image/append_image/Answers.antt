@@ -19,7 +19,7 @@ split_at-requires c =
     let es = drop (at.extent-index + 1) c.args.extents.now in
     let n = length c.args.blocks.now in
     let here : IsTrue (is_merged_from at.first n (e ∷ es)) =
-      sym (at_drop_more (is_merged_from at.first n) c.args.extents.now at.extent-index no_extent c.loop-extent-test.true) ∙ at.invariant.merged in
+    sym (at_drop_more (is_merged_from at.first n) c.args.extents.now at.extent-index no_extent c.loop-extent-test.true) ∙ at.invariant.merged in
     let within = merged_within (at.first + e.length) n es (merged_next at.first n e es here).1 in
     omega (arith, at.invariant.count, within)
 
@@ -38,8 +38,8 @@ loop-extent-preserved c =
       merged = (merged_next at.first n e es here).1;
       count = omega (arith, at.invariant.count, c.split_at.ensures.back_len);
       lines = λ rest.
-        rw c.split_at.ensures.back (c.in_ok-append_kind.ensures (image_lines name es (at.first + e.length) (drop e.length left) rest)
-        ∙ rw c.split_at.ensures.front (ap (λ t. at.text.items ++ t) (sym (image_lines-part name e es at.first n left rest here)))
-        ∙ ap (λ t. at.text.items ++ t) (sym (at_drop_more (λ extents. image_lines name extents at.first left rest) c.args.extents.now at.extent-index no_extent c.loop-extent-test.true))
-        ∙ at.invariant.lines rest)
+          rw c.split_at.ensures.back (c.in_ok-append_kind.ensures (image_lines name es (at.first + e.length) (drop e.length left) rest)
+          ∙ rw c.split_at.ensures.front (ap (λ t. at.text.items ++ t) (sym (image_lines-part name e es at.first n left rest here)))
+          ∙ ap (λ t. at.text.items ++ t) (sym (at_drop_more (λ extents. image_lines name extents at.first left rest) c.args.extents.now at.extent-index no_extent c.loop-extent-test.true))
+          ∙ at.invariant.lines rest);
     }

@@ -15,11 +15,11 @@ loop-next-preserved c =
     record {
       short = omega arith;
       left = λ rest.
-        c.in_ok-append_word.ensures (runs_text 0 (runs_from page 1 after) rest)
-        ∙ c.in_ok-append_run.ensures (codes "," ++ runs_text 0 (runs_from page 1 after) rest)
-        ∙ ap (λ t. c.loop-next.text.items ++ t) (sym (runs_text-ended first count page after rest (sym c.goes_on.ensures ∙ c.if-goes_on.false)))
-        ∙ ap (λ runs. c.loop-next.text.items ++ runs_text 0 runs rest) (sym here)
-        ∙ c.loop-next.invariant.left rest
+          c.in_ok-append_word.ensures (runs_text 0 (runs_from page 1 after) rest)
+          ∙ c.in_ok-append_run.ensures (codes "," ++ runs_text 0 (runs_from page 1 after) rest)
+          ∙ ap (λ t. c.loop-next.text.items ++ t) (sym (runs_text-ended first count page after rest (sym c.goes_on.ensures ∙ c.if-goes_on.false)))
+          ∙ ap (λ runs. c.loop-next.text.items ++ runs_text 0 runs rest) (sym here)
+          ∙ c.loop-next.invariant.left rest;
     }
 
 pub returns : goal.returns
