@@ -1,5 +1,5 @@
 -- Runs of pages, from the left.
-use Rattle.std.proofs.Common.{◌≡◌, ℕ, ◌+◌, List, [], ◌∷◌, ◌++◌, ◌==◌, Bool, true, false, cond, codes, decimal, refl, sym, ap, ◌∙◌, if◌then◌else◌, arith, add_assoc, add_comm, eq-eqb}
+use Rattle.std.proofs.Common.{◌≡◌, ℕ, ◌+◌, List, [], ◌∷◌, ◌++◌, ◌==◌, Bool, true, false, codes, decimal, refl, sym, ap, ◌∙◌, if◌then◌else◌, add_assoc, add_comm, eq-eqb}
 use Rattle.std.proofs.lemmas.Bool.{eqb-true}
 use Rattle.io_model.specs.RunText.{onto_runs, page_runs, runs_text, more_runs_text}
 

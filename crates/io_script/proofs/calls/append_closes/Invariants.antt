@@ -1,4 +1,4 @@
-use Rattle.std.proofs.Common.{◌+◌, drop}
+use Rattle.std.proofs.Common.{drop}
 use Rattle.io_model.specs.RunText.{close_lines}
 use Rattle.io_script.proofs.Appended.{HasLeft}
 use Rattle.io_script.proofs.calls.append_closes.Given as goal

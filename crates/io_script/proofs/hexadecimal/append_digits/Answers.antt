@@ -1,4 +1,4 @@
-use Rattle.std.proofs.Common.{◌≡◌, ℕ, List, take, drop, ◌++◌, ◌∙◌, sym, ap}
+use Rattle.std.proofs.Common.{drop, ◌++◌, ◌∙◌, sym, ap}
 use Rattle.hex.specs.Hex.{encode_lower, lower_digits}
 use Rattle.io_script.proofs.Digits.{encode_with-cut}
 use Rattle.io_script.proofs.hexadecimal.append_digits.Goals as goal

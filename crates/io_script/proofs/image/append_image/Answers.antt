@@ -1,10 +1,9 @@
-use Rattle.std.proofs.Common.{◌≡◌, ℕ, List, ◌∷◌, IsTrue, ◌+◌, ◌++◌, ◌∙◌, sym, ap, arith, drop, take, length, slice_index_or}
+use Rattle.std.proofs.Common.{◌∷◌, IsTrue, ◌+◌, ◌++◌, ◌∙◌, sym, ap, arith, drop, length, slice_index_or}
 use Rattle.std.proofs.lemmas.List.{at_drop_more}
 use Rattle.io_model.specs.Fitting.{is_merged_from}
 use Rattle.io_model.specs.RunText.{image_lines}
 use Rattle.io_model.specs.declared.file.Extent.{Extent}
 use Rattle.io_model.specs.declared.file.Kind.TheVariants.{Hole}
-use Rattle.io_script.specs.Image.{lines_of_kind}
 use Rattle.io_script.proofs.Extents.{merged_next, merged_within, image_lines-part}
 use Rattle.io_script.proofs.image.append_image.Goals as goal
 

@@ -1,4 +1,4 @@
-use Rattle.std.proofs.Common.{◌≡◌, ℕ, List, ◌+◌, ◌++◌, ◌∙◌, sym, ap, arith, drop, slice_index_or, decimal, codes}
+use Rattle.std.proofs.Common.{◌+◌, ◌++◌, ◌∙◌, sym, ap, arith, drop, slice_index_or, codes}
 use Rattle.std.proofs.lemmas.List.{at_drop_more, at_drop_all}
 use Rattle.io_model.specs.RunText.{runs_text}
 use Rattle.io_script.proofs.Runs.{runs_from, runs_text-ended, page_runs-from}
