@@ -1,6 +1,7 @@
 pub mod Cuts
 pub mod Devices
 pub mod OneContents
+pub mod OneFile
 pub mod OneRead
 pub mod Shapes
 pub mod Spans
