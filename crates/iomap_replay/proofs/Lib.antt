@@ -3,6 +3,7 @@ pub mod Devices
 pub mod OneContents
 pub mod OneFile
 pub mod OneRead
+pub mod RightRun
 pub mod Shapes
 pub mod Spans
 pub mod Tables
