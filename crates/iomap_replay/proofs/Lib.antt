@@ -2,6 +2,7 @@ pub mod Cuts
 pub mod Devices
 pub mod OneContents
 pub mod OneFile
+pub mod OneRange
 pub mod OneRead
 pub mod RightRun
 pub mod Shapes

@@ -6,7 +6,7 @@ use Rattle.std.proofs.lemmas.Bool.{ltb-true, ltb-false, lt-ltb, leb-true, leb-fa
 use Rattle.iob_base.specs.DeviceBlock.{DeviceBlock, device_block}
 use Rattle.iob_base.specs.declared.stamp.Stamp.{Stamp}
 use Rattle.io_model.specs.Contents.{Content}
-use Rattle.io_model.specs.Kinds.{covers, kind_after, kind_at, mapped_number}
+use Rattle.io_model.specs.Kinds.{covers, kind_after, kind_at, mapped_number, device_number}
 use Rattle.io_model.specs.declared.file.Extent.{Extent}
 use Rattle.io_model.specs.declared.file.Kind.{Kind}
 use Rattle.io_model.specs.declared.file.Kind.TheVariants.{Hole, Mapped}
@@ -14,24 +14,26 @@ use Rattle.iomap_replay.specs.Devices.{blocks_with}
 use Rattle.iomap_replay.specs.Runs.{tabulated, read_end, sector_with}
 use Rattle.range_core.specs.Cells.{cell_of, cells_of, sectors_after}
 use Rattle.range_core.specs.Kinds.{kinds_from}
+use Rattle.range_core.specs.declared.cell.Cell.{Cell}
 use Rattle.range_core.specs.Stamps.{bare_end, journaled, stamps_at}
 
 -- the sectors of an extent that are left at a block of the file
-abbrev rest_at : (ℕ → Content) → ℕ → ℕ → ℕ → ℕ → List DeviceBlock
+abbrev pub rest_at : (ℕ → Content) → ℕ → ℕ → ℕ → ℕ → List DeviceBlock
 rest_at content d low high b = blocks_with content (d + (b - low)) (high - max b low)
 
 -- a block of this kind takes its sector from these, and leaves those for the next block
-record Steps (content : ℕ → Content) (kind : Kind) (sectors next : List DeviceBlock) : Type 0 where
-  cell : (cell_of kind sectors).sector ≡ sector_with content (mapped_number kind)
-  rest : sectors_after kind sectors ≡ next
+pub record Steps (content : ℕ → Content) (kind : Kind) (sectors next : List DeviceBlock) : Type 0 where
+  pub cell : (cell_of kind sectors).sector ≡ sector_with content (mapped_number kind)
+  pub rest : sectors_after kind sectors ≡ next
+  pub numbers : map (λ (s : DeviceBlock). s.number) sectors ≡ cons_option (device_number kind) (map (λ (s : DeviceBlock). s.number) next)
 
 steps-mapped : (content : ℕ → Content) (n m : ℕ) → Steps content (Mapped n) (blocks_with content n (suc m)) (blocks_with content (n + 1) m)
-steps-mapped content n m = record { cell = refl; rest = refl }
+steps-mapped content n m = record { cell = refl; rest = refl; numbers = refl }
 
 steps-hole : (content : ℕ → Content) (sectors : List DeviceBlock) → Steps content Hole sectors sectors
-steps-hole content sectors = record { cell = refl; rest = refl }
+steps-hole content sectors = record { cell = refl; rest = refl; numbers = refl }
 
-inside : (content : ℕ → Content) (e : Extent) (d b : ℕ) → e.kind ≡ Mapped d → e.block ≤ b → b < e.block + e.length
+pub inside : (content : ℕ → Content) (e : Extent) (d b : ℕ) → e.kind ≡ Mapped d → e.block ≤ b → b < e.block + e.length
     → Steps content (kind_at (e ∷ []) b) (rest_at content d e.block (e.block + e.length) b) (rest_at content d e.block (e.block + e.length) (b + 1))
 inside content e d b kind low high =
     let place = b - e.block in
@@ -66,7 +68,7 @@ outside content e d b out side =
         none_left : (m n : ℕ) → m ≡ 0 → n ≡ 0 → blocks_with content (d + (b - e.block)) m ≡ blocks_with content (d + (b + 1 - e.block)) n
         none_left m n mz nz = ap (blocks_with content (d + (b - e.block))) mz ∙ sym (ap (blocks_with content (d + (b + 1 - e.block))) nz)
 
-steps : (content : ℕ → Content) (e : Extent) (d b : ℕ) → e.kind ≡ Mapped d
+pub steps : (content : ℕ → Content) (e : Extent) (d b : ℕ) → e.kind ≡ Mapped d
     → Steps content (kind_at (e ∷ []) b) (rest_at content d e.block (e.block + e.length) b) (rest_at content d e.block (e.block + e.length) (b + 1))
 steps content e d b kind = by_low (nat_le e.block b) refl
   where
@@ -90,17 +92,40 @@ ends-from content e d read stamps log kind logged b (suc n) =
     rw (here.cell, logged b, here.rest) (ap (λ ends. read_end content (λ i. mapped_number (kind_at (e ∷ []) i)) read stamps b ∷ ends)
       (ends-from content e d read stamps log kind logged (b + 1) n))
 
+-- at the first block all sectors are left
+pub start_rest : (content : ℕ → Content) (e : Extent) (d : ℕ) → rest_at content d e.block (e.block + e.length) 0 ≡ blocks_with content d e.length
+start_rest content e d =
+    let p : d + (0 - e.block) ≡ d = omega arith in
+    let q : e.block + e.length - max 0 e.block ≡ e.length = omega arith in
+    ap (λ k. blocks_with content k (e.block + e.length - max 0 e.block)) p ∙ ap (blocks_with content d) q
+
 -- the ends of all blocks of the file
 pub ends-are : (content : ℕ → Content) (e : Extent) (d blocks read : ℕ) (stamps : List Stamp) (log : List (ℕ × Stamp)) → e.kind ≡ Mapped d
     → ((b : ℕ) → stamps_at b log ≡ (if nat_eq b read then stamps else []))
     → journaled 0 log (map bare_end (cells_of (kinds_from (e ∷ []) 0 blocks) (blocks_with content d e.length)))
       ≡ tabulated (read_end content (λ i. mapped_number (kind_at (e ∷ []) i)) read stamps) 0 blocks
 ends-are content e d blocks read stamps log kind logged =
-    let p : d + (0 - e.block) ≡ d = omega arith in
-    let q : e.block + e.length - max 0 e.block ≡ e.length = omega arith in
-    let start : rest_at content d e.block (e.block + e.length) 0 ≡ blocks_with content d e.length = rw (p, q) refl in
-    ap (λ sectors. journaled 0 log (map bare_end (cells_of (kinds_from (e ∷ []) 0 blocks) sectors))) (sym start)
+    ap (λ sectors. journaled 0 log (map bare_end (cells_of (kinds_from (e ∷ []) 0 blocks) sectors))) (sym (start_rest content e d))
     ∙ ends-from content e d read stamps log kind logged 0 blocks
+
+-- the blocks from one on, with the sectors that are left there
+pub cells-dropped : (content : ℕ → Content) (e : Extent) (d : ℕ) → e.kind ≡ Mapped d → (k b n : ℕ)
+    → drop k (cells_of (kinds_from (e ∷ []) b n) (rest_at content d e.block (e.block + e.length) b))
+      ≡ cells_of (kinds_from (e ∷ []) (b + k) (n - k)) (rest_at content d e.block (e.block + e.length) (b + k))
+cells-dropped content e d kind zero b n =
+    let cells : ℕ → ℕ → List Cell = λ c m. cells_of (kinds_from (e ∷ []) c m) (rest_at content d e.block (e.block + e.length) c) in
+    let many : n ≡ n - 0 = omega arith in
+    let place : b ≡ b + 0 = omega arith in
+    ap (cells b) many ∙ ap (λ c. cells c (n - 0)) place
+cells-dropped content e d kind (suc k) b zero =
+    let none : 0 ≡ 0 - suc k = omega arith in
+    ap (λ m. cells_of (kinds_from (e ∷ []) (b + suc k) m) (rest_at content d e.block (e.block + e.length) (b + suc k))) none
+cells-dropped content e d kind (suc k) b (suc n) =
+    let cells : ℕ → ℕ → List Cell = λ c m. cells_of (kinds_from (e ∷ []) c m) (rest_at content d e.block (e.block + e.length) c) in
+    let place : b + 1 + k ≡ b + suc k = omega arith in
+    let many : n - k ≡ suc n - suc k = omega arith in
+    ap (λ sectors. drop k (cells_of (kinds_from (e ∷ []) (b + 1) n) sectors)) (steps content e d b kind).rest
+    ∙ cells-dropped content e d kind k (b + 1) n ∙ ap (λ c. cells c (n - k)) place ∙ ap (cells (b + suc k)) many
 
 -- the test of two numbers is the same in either order
 nat_eq-turned : (a b : ℕ) → nat_eq a b ≡ nat_eq b a

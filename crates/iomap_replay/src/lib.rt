@@ -6,6 +6,7 @@ mod device;
 mod fields;
 mod lines;
 mod numbers;
+mod range;
 mod script;
 mod streams;
 mod words;
