@@ -7,6 +7,7 @@ mod fields;
 mod lines;
 mod numbers;
 mod range;
+mod read;
 mod script;
 mod streams;
 mod words;
