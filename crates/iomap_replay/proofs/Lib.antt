@@ -5,6 +5,7 @@ pub mod OneContents
 pub mod OneFile
 pub mod OneRange
 pub mod OneRead
+pub mod Outcome
 pub mod RightRun
 pub mod Shapes
 pub mod Spans

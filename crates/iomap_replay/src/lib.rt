@@ -8,6 +8,7 @@ mod lines;
 mod numbers;
 mod range;
 mod read;
+mod run;
 mod script;
 mod streams;
 mod words;

@@ -1,0 +1,116 @@
+-- From the outcome of the one read, and what its range left, to a right run.
+use Rattle.std.proofs.Common.{◌≡◌, ℕ, zero, suc, ◌+◌, ◌-◌, ◌<◌, ◌≤◌, Bool, true, false, List, [], ◌∷◌, length, map, nat_eq, if◌then◌else◌, refl, sym, ap, ◌∙◌, arith, subst}
+use Rattle.std.specs.Prelude.{IsTrue}
+use Rattle.std.specs.Bool.{MatchBool}
+use Rattle.iob_base.specs.DeviceBlock.{DeviceBlock}
+use Rattle.iob_base.specs.declared.stamp.Stamp.{Stamp}
+use Rattle.io_model.specs.Contents.{Content, device_bytes}
+use Rattle.io_model.specs.Fitting.{is_merged_from}
+use Rattle.io_model.specs.Kinds.{kind_at}
+use Rattle.io_model.specs.Right.{RunIsRight}
+use Rattle.io_model.specs.RunText.{is_error}
+use Rattle.io_model.specs.declared.file.Extent.{Extent}
+use Rattle.io_model.specs.declared.file.FileEnd.{FileEnd}
+use Rattle.io_model.specs.declared.file.Kind.{Kind}
+use Rattle.io_model.specs.declared.file.Kind.TheVariants.{Mapped}
+use Rattle.io_model.specs.declared.run.CallEnd.{CallEnd}
+use Rattle.io_model.specs.declared.run.LaneEnd.{LaneEnd}
+use Rattle.io_model.specs.declared.script.Script.{Script}
+use Rattle.iomap_replay.proofs.OneFile.{ends-are, stamps_at-one, stamps_at-none}
+use Rattle.iomap_replay.proofs.OneRange.{first_is}
+use Rattle.iomap_replay.proofs.OneRead.{is_at}
+use Rattle.iomap_replay.proofs.RightRun.{IsReadFile, right_run, whole_read, failed_read}
+use Rattle.iomap_replay.specs.Devices.{blocks_with, first_number}
+use Rattle.iomap_replay.specs.Jobs.{IsJobOf, script_of_job}
+use Rattle.iomap_replay.specs.OneRead.{block_of, opened_range, GaveRange, GaveNothing, IsOutcome}
+use Rattle.iomap_replay.specs.Runs.{read_stamp, one_run}
+use Rattle.iomap_replay.specs.declared.script.Job.{Job}
+use Rattle.range_core.specs.Cells.{cells_of, sectors_after}
+use Rattle.range_core.specs.Events.{with_stamps}
+use Rattle.range_core.specs.Kinds.{kinds_from}
+use Rattle.range_core.specs.RangeView.{RangeView}
+use Rattle.range_core.specs.Stamps.{bare_end, journaled, stamps_at}
+use Rattle.range_core.specs.declared.cell.Cell.{Cell}
+
+-- a file's end is what a range leaves
+pub record IsEndOf (file : FileEnd) (r : RangeView) : Type 0 where
+  pub merged : IsTrue (is_merged_from r.first (r.first + length r.cells) file.extents)
+  pub kinds : kinds_from file.extents r.first (length r.cells) ≡ map (λ (c : Cell). c.kind) r.cells
+  pub blocks : file.blocks ≡ journaled r.first r.log (map bare_end r.cells)
+
+kinds_of_cells : (kinds : List Kind) (sectors : List DeviceBlock) → map (λ (c : Cell). c.kind) (cells_of kinds sectors) ≡ kinds
+kinds_of_cells [] sectors = refl
+kinds_of_cells (k ∷ ks) sectors = ap (λ rest. k ∷ rest) (kinds_of_cells ks (sectors_after k sectors))
+
+length-cells : (kinds : List Kind) (sectors : List DeviceBlock) → length (cells_of kinds sectors) ≡ length kinds
+length-cells [] sectors = refl
+length-cells (k ∷ ks) sectors = ap suc (length-cells ks (sectors_after k sectors))
+
+length-kinds : (extents : List Extent) (b n : ℕ) → length (kinds_from extents b n) ≡ n
+length-kinds extents b zero = refl
+length-kinds extents b (suc n) = ap suc (length-kinds extents (b + 1) n)
+
+-- equal lists of kinds have equal kinds at each block
+kind_of_each : (xs ys : List Extent) (b n k : ℕ) → kinds_from xs b n ≡ kinds_from ys b n → k < n → kind_at xs (b + k) ≡ kind_at ys (b + k)
+kind_of_each xs ys b zero k same within = absurd (omega arith)
+kind_of_each xs ys b (suc n) zero same within =
+    let here : kind_at xs b ≡ kind_at ys b = cc in
+    let place : b ≡ b + 0 = omega arith in
+    let P : ℕ → Type 0 = λ c. kind_at xs c ≡ kind_at ys c in
+    subst P place here
+kind_of_each xs ys b (suc n) (suc k) same within =
+    let rest : kinds_from xs (b + 1) n ≡ kinds_from ys (b + 1) n = cc in
+    let place : b + 1 + k ≡ b + suc k = omega arith in
+    let P : ℕ → Type 0 = λ c. kind_at xs c ≡ kind_at ys c in
+    subst P place (kind_of_each xs ys (b + 1) n k rest (omega arith))
+
+-- the file that the range leaves, with these stamps at the block that was read
+read_file : (script : Script) (job : Job) (d : ℕ) (stamps : List Stamp) (log : List (ℕ × Stamp)) (file : FileEnd) → job.extent.kind ≡ Mapped d
+    → ((b : ℕ) → stamps_at b log ≡ (if nat_eq b (block_of job) then stamps else []))
+    → IsEndOf file (record (opened_range script job) { log = log }) → IsReadFile script job (block_of job) stamps file
+read_file script job d stamps log file kind logged end =
+    let content : ℕ → Content = device_bytes script in
+    let e = job.extent in
+    let kinds = kinds_from (e ∷ []) 0 job.blocks in
+    let sectors = blocks_with content (first_number e.kind) e.length in
+    let many : length (cells_of kinds sectors) ≡ job.blocks = length-cells kinds sectors ∙ length-kinds (e ∷ []) 0 job.blocks in
+    let all : kinds_from file.extents 0 job.blocks ≡ kinds = sym (ap (kinds_from file.extents 0) many) ∙ end.kinds ∙ kinds_of_cells kinds sectors in
+    record {
+      blocks = end.blocks ∙ ap (λ n. journaled 0 log (map bare_end (cells_of kinds (blocks_with content n e.length)))) (first_is e d kind)
+        ∙ ends-are content e d job.blocks (block_of job) stamps log kind logged;
+      merged = (let P : ℕ → Type 0 = λ n. IsTrue (is_merged_from 0 n file.extents) in
+        let end_is : 0 + length (cells_of kinds sectors) ≡ job.blocks = omega (arith, many) in subst P end_is end.merged);
+      kinds = λ i within.
+        let P : ℕ → Type 0 = λ c. kind_at file.extents c ≡ kind_at (e ∷ []) c in
+        let place : 0 + i ≡ i = omega arith in subst P place (kind_of_each file.extents (e ∷ []) 0 job.blocks i all within);
+    }
+
+-- a run whose script is spelled out
+right_spelled : (script : Script) (job : Job) (end : CallEnd) (file : FileEnd) (free : List DeviceBlock) (lanes : List LaneEnd) (new : RangeView) (of : IsJobOf script job)
+    → IsOutcome (script_of_job of.name job script.blocks) job end (opened_range (script_of_job of.name job script.blocks) job) new
+    → IsEndOf file new → length lanes ≡ 17 → RunIsRight (script_of_job of.name job script.blocks) (0 ∷ []) (one_run end file free lanes)
+right_spelled script job end file free lanes new of outcome file_end many = by_reply (is_error end.answer.reply) outcome
+  where
+    by_reply : (t : Bool) → MatchBool t (GaveNothing end (opened_range (script_of_job of.name job script.blocks) job) new)
+          (GaveRange (script_of_job of.name job script.blocks) job end (opened_range (script_of_job of.name job script.blocks) job) new)
+        → RunIsRight (script_of_job of.name job script.blocks) (0 ∷ []) (one_run end file free lanes)
+    by_reply true nothing =
+        let on = of.shape.tail.extent in
+        let s = script_of_job of.name job script.blocks in
+        let read = read_file s job on.mapped.0 [] [] file on.mapped.1 (stamps_at-none (block_of job)) (subst (IsEndOf file) nothing.left file_end) in
+        right_run of.name job script.blocks on.mapped.0 (block_of job) [] file end free lanes of.shape of.whole on.mapped.1 read
+          (failed_read of.name job script.blocks (block_of job) file end nothing.fault read nothing.reply nothing.waited nothing.pages nothing.got) many
+    by_reply false whole =
+        let on = of.shape.tail.extent in
+        let s = script_of_job of.name job script.blocks in
+        let b = block_of job in
+        let read = read_file s job on.mapped.0 (read_stamp ∷ []) ((b, read_stamp) ∷ []) file on.mapped.1 (stamps_at-one b read_stamp) (subst (IsEndOf file) whole.left file_end) in
+        right_run of.name job script.blocks on.mapped.0 b (read_stamp ∷ []) file end free lanes of.shape of.whole on.mapped.1 read
+          (whole_read of.name job script.blocks b file end (is_at job of.shape) read whole.reply whole.pages whole.many whole.got) many
+
+pub right_from_outcome : (script : Script) (job : Job) (end : CallEnd) (file : FileEnd) (free : List DeviceBlock) (lanes : List LaneEnd) (new : RangeView) (of : IsJobOf script job)
+    → IsOutcome script job end (opened_range script job) new → IsEndOf file new → length lanes ≡ 17 → RunIsRight script (0 ∷ []) (one_run end file free lanes)
+right_from_outcome script job end file free lanes new of outcome file_end many =
+    let O : Script → Type 0 = λ s. IsOutcome s job end (opened_range s job) new in
+    let R : Script → Type 0 = λ s. RunIsRight s (0 ∷ []) (one_run end file free lanes) in
+    subst R (sym of.is) (right_spelled script job end file free lanes new of (subst O of.is outcome) file_end many)

@@ -1,0 +1,100 @@
+//! The run of a script of one read.
+ghost use Rattle.std.specs.Prelude.{◌≡◌, List, [], ◌∷◌, IfOk, length, slice_get};
+ghost use Rattle.std.specs.List.{list_any};
+ghost use Rattle.io_model.specs.Right.{RunIsRight};
+ghost use Rattle.io_model.specs.RunText.{has_error, is_error};
+ghost use Rattle.iomap_replay.specs.Causes.{AreCaused};
+ghost use Rattle.iomap_replay.specs.Jobs.{IsJobOf};
+ghost use Rattle.iomap_replay.specs.Runs.{quiet_close as quiet_close_answer, one_run, file_of_range};
+ghost use Rattle.fault_device.specs.LaneView.{lane_seen};
+ghost use Rattle.fault_device.specs.Opening.{Opening, Serves};
+
+use crate::range::{open_range, sectors_of};
+use crate::read::read_once;
+use crate::script::Job;
+use fault_device::Lane;
+use io_model::{CallEnd, FileEnd, LaneEnd, Run, Script, Unmounted};
+use iob_base::{Answer, Items, Reply, Sector, Stop};
+use range_core::RangeEnd;
+use std::alloc::{AllocError, Global};
+
+/// The close of a file that has nothing dirty.
+fn quiet_close() -> Answer
+    ensures { result ≡ quiet_close_answer }
+{
+    Answer {
+        reply: Reply::Ok {
+            count: 0,
+            stop: Stop::Whole,
+        },
+        bios: 0,
+    }
+}
+
+/// The run of one call on one file. Want of memory is the only error.
+fn assemble_run(alloc: Global, end: CallEnd, range: RangeEnd, free: Vec<Sector>, lanes: Vec<LaneEnd>) -> Result<Run, AllocError>
+    ensures { IfOk result (λ run. run ≡ one_run end (file_of_range range) free.items lanes.items) }
+{
+    let RangeEnd { extents, blocks } = range;
+    Ok(Run {
+        calls: Items::from_vec(vec![in alloc; end]?),
+        closes: Items::from_vec(vec![in alloc; quiet_close()]?),
+        ends: Unmounted {
+            files: Items::from_vec(vec![in alloc; FileEnd { extents, blocks }]?),
+            free: Items::from_vec(free),
+        },
+        lanes: Items::from_vec(lanes),
+    })
+}
+
+/// Runs a script of the one form on lane 0. `others` are the ends of the other lanes, which have
+/// nothing to do. Want of memory outside the call's reply is the only error.
+pub fn run_script(alloc: Global, script: &Script, job: &Job, lane: &mut Lane, others: Vec<LaneEnd>) -> Result<Run, AllocError>
+    requires job { IsJobOf script.now job.now }
+    requires lanes { length others.items ≡ 16 }
+    ensures right { IfOk result (RunIsRight script.now (0 ∷ [])) }
+    ensures caused { (openings : List Opening) (o : Opening) → slice_get openings 0 ≡ Some o → Serves o (lane_seen count tells lane.old)
+        → (lane_seen count tells lane.old).number ≡ 0 → IfOk result (λ run. AreCaused openings script.now.calls run.calls) }
+{
+    let (own, free) = sectors_of(alloc, script, job)?;
+    let mut range = open_range(alloc, script, job, own)?;
+    let end = read_once(alloc, script, job, &mut range, lane)?;
+    let range = range.end()?;
+    let mut lanes = others;
+    lanes.insert(
+        0,
+        LaneEnd {
+            ops: lane.ops(),
+            faults: lane.faults(),
+        },
+    )?;
+    assemble_run(alloc, end, range, free, lanes)
+}
+
+/// Whether a reply is an error.
+fn is_error_reply(reply: &Reply) -> bool
+    ensures { result ≡ is_error reply.now }
+{
+    matches!(reply, Reply::Err { .. })
+}
+
+/// Whether a call answered an error.
+fn has_failed_call(calls: &[CallEnd]) -> bool
+    ensures { result ≡ list_any (λ end. is_error end.answer.reply) calls.now }
+{
+    calls.iter().any(|end| is_error_reply(&end.answer.reply))
+}
+
+/// Whether a close answered an error.
+fn has_failed_close(closes: &[Answer]) -> bool
+    ensures { result ≡ list_any (λ close. is_error close.reply) closes.now }
+{
+    closes.iter().any(|close| is_error_reply(&close.reply))
+}
+
+/// Whether a printed reply, of a call or a close, is an error.
+pub fn has_error_reply(run: &Run) -> bool
+    ensures { result ≡ has_error run.now }
+{
+    has_failed_call(run.calls.as_slice()) || has_failed_close(run.closes.as_slice())
+}
