@@ -1,5 +1,6 @@
 pub mod Cuts
 pub mod Devices
+pub mod Fates
 pub mod OneBlock
 pub mod OneContents
 pub mod OneFile

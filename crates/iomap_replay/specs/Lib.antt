@@ -8,5 +8,6 @@ pub mod Numbers
 pub mod OnePread
 pub mod OneRead
 pub mod Runs
+pub mod Statuses
 pub mod Streams
 pub mod Words

@@ -4,6 +4,7 @@
 mod bytes;
 mod device;
 mod fields;
+mod lanes;
 mod lines;
 mod numbers;
 mod range;

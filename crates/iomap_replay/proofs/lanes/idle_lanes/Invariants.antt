@@ -1,0 +1,9 @@
+use Rattle.std.proofs.Common.{◌≡◌, ◌≤◌, ◌+◌, length}
+use Rattle.std.specs.Vec.{vec_len}
+use Rattle.iomap_replay.proofs.lanes.idle_lanes.Given as goal
+
+abbrev pub invariant-loop-left : goal.invariant-loop-left
+invariant-loop-left g l = (length l.ends.items + length l.left.items ≡ length l.fn.fates.items) × (l.number ≡ length l.ends.items + 1)
+
+abbrev pub decreases-loop-left : goal.decreases-loop-left
+decreases-loop-left g l = vec_len l.left
