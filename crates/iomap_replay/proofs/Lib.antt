@@ -1,5 +1,6 @@
 pub mod Cuts
 pub mod Devices
+pub mod Endings
 pub mod Fates
 pub mod OneBlock
 pub mod OneContents

@@ -1,5 +1,6 @@
 pub mod Causes
 pub mod Devices
+pub mod Endings
 pub mod Facts
 pub mod Fields
 pub mod Jobs

@@ -6,6 +6,8 @@ use Rattle.io_model.specs.declared.run.Run.{Run}
 use Rattle.io_model.specs.declared.script.Script.{Script}
 use Rattle.iomap_replay.specs.Causes.{AreCaused}
 use Rattle.iomap_replay.specs.OnePread.{IsScript, script_of}
+use Rattle.iomap_replay.specs.declared.top.Output.{Output}
+use Rattle.iomap_replay.specs.declared.top.Output.TheVariants.{Refusal, Text}
 use Rattle.iomap_replay.specs.Streams.{TookWhole, TookPrefix}
 
 -- the line for a text of a form that is not built
@@ -59,3 +61,8 @@ pub record StopsShort (openings : List Opening) (before taken after : Option (Li
   pub read : IsTextOf before text
   pub output : IsOutputOf openings text written
   pub took : TookPrefix taken written after
+
+-- what the output of a text is: the refusal where it is of no form that is built, else the text of a right run
+abbrev pub IsOutput : List ℕ → List Opening → Output → Type 0
+IsOutput text openings Refusal = script_of text ≡ None
+IsOutput text openings (Text written failed) = Shows text openings written.items failed

@@ -9,7 +9,11 @@ mod lines;
 mod numbers;
 mod range;
 mod read;
+
 mod run;
 mod script;
 mod streams;
+mod top;
 mod words;
+
+pub use top::{Ending, replay};
