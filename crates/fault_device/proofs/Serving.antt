@@ -3,7 +3,7 @@ use Rattle.std.proofs.lemmas.Bool.{and_parts}
 use Rattle.std.specs.List.{list_any}
 use Rattle.iob_base.specs.Counts.{count_after}
 use Rattle.fault_device.specs.LaneView.{LaneView}
-use Rattle.fault_device.specs.Opening.{Opening, Serves, IsServed, fault_bound, bound_told, may_fail_told, has_armed}
+use Rattle.fault_device.specs.Opening.{Opening, Opens, Serves, IsServed, fault_bound, bound_told, may_fail_told, has_armed}
 use Rattle.fault_device.specs.Ran.{Ran, RunsAsTold, count_more, judged_more, armed_among}
 use Rattle.fault_device.specs.Telling.{Telling, is_next_armed, judged_once}
 use Rattle.fault_device.specs.Transfer.{Tells}
@@ -58,3 +58,11 @@ served n o old new done t s = record {
   bound = let P : ℕ → Type 0 = λ n. IfSome (fault_bound o) (λ most. n ≤ most) in
       subst P (sym t.after) (bound_after o.tells o.count new.count new.tells (serves_on 1 o old new s t.ran).told);
 }
+
+told_first : (told : Option Telling) (before : ℕ) (now : ℕ) (u : Option Telling) → IfSome told (λ t. (u ≡ Some t) × (now ≡ before)) → IfSome told (λ t. (m : ℕ) × RunsAsTold m t before now u)
+told_first None before now u h = tt
+told_first (Some t) before now u h = (0, record { goes_on = h.0; counted = h.1 })
+
+-- a lane that stands over a fate as it was opened serves it
+pub opens_serves : (o : Opening) (v : LaneView) → Opens o v → Serves o v
+opens_serves o v h = record { never_falls = h.never_falls; told = told_first o.tells o.count v.count v.tells h.told }

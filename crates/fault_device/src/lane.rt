@@ -20,7 +20,8 @@ pub struct Done {
 
 /// A port of the device. It owns the fate of its transfers.
 ///
-/// Contracts see it as `lane_view count tells lane`.
+/// Contracts see it as `lane_view count tells lane`, and those of the crates above as
+/// `lane_seen count tells lane`: `count` and `tells` are the members of its fate.
 #[derive(Drop)]
 pub struct Lane {
     number: u32,

@@ -1,10 +1,10 @@
-use Rattle.std.proofs.Common.{◌≡◌, ℕ, zero, suc, ◌+◌, ◌-◌, ◌<◌, List, [], ◌∷◌, ◌++◌, length, map, All, append_assoc, arith, refl, sym, ◌∙◌, ap, subst}
+use Rattle.std.proofs.Common.{◌≡◌, ℕ, zero, suc, ◌+◌, ◌-◌, ◌<◌, List, [], ◌∷◌, ◌++◌, length, map, get_or, All, IfSome, append_assoc, add-zero, arith, refl, sym, ◌∙◌, ap, subst}
 use Rattle.iob_base.specs.DeviceBlock.{DeviceBlock}
 use Rattle.io_model.specs.Kinds.{kind_at}
 use Rattle.io_model.specs.declared.file.Extent.{Extent}
 use Rattle.io_model.specs.declared.file.Kind.{Kind}
 use Rattle.io_model.specs.declared.file.Kind.TheVariants.{Hole, Delalloc, Unwritten, Mapped}
-use Rattle.std.proofs.lemmas.List.Elements.{All-cons, All-nil}
+use Rattle.std.proofs.lemmas.List.Elements.{All-cons, All-nil, All-tail}
 use Rattle.range_core.specs.Cells.{IsHome, cell_of, cells_of, sectors_after}
 use Rattle.range_core.specs.Kinds.{kinds_from, numbers_of}
 use Rattle.range_core.specs.declared.cell.Cell.{Cell}
@@ -56,3 +56,26 @@ length-cells_of (kind ∷ kinds) sectors = ap suc (length-cells_of kinds (sector
 pub homes_of : (size : ℕ) (kinds : List Kind) (sectors : List DeviceBlock) (cells : List Cell) → cells ≡ cells_of kinds sectors → map (λ s. s.number) sectors ≡ numbers_of kinds → All (λ s. length s.bytes ≡ size) sectors → All (IsHome size) cells
 homes_of size kinds sectors cells are e w =
     let P : List Cell → Type 0 = λ xs. All (IsHome size) xs in subst P (sym are) (cells_of-home size kinds sectors e w)
+
+-- what holds of every sector holds of those that the blocks have
+pub cells_of-hold : (P : DeviceBlock → Type 0) (kinds : List Kind) (sectors : List DeviceBlock) → All P sectors → All (λ c. IfSome c.sector P) (cells_of kinds sectors)
+cells_of-hold P [] sectors h = All-nil (λ c. IfSome c.sector P)
+cells_of-hold P (Hole ∷ kinds) sectors h = All-cons (λ c. IfSome c.sector P) _ _ tt (cells_of-hold P kinds sectors h)
+cells_of-hold P (Delalloc ∷ kinds) sectors h = All-cons (λ c. IfSome c.sector P) _ _ tt (cells_of-hold P kinds sectors h)
+cells_of-hold P (Unwritten d ∷ kinds) [] h = All-cons (λ c. IfSome c.sector P) _ _ tt (cells_of-hold P kinds [] h)
+cells_of-hold P (Unwritten d ∷ kinds) (s ∷ sectors) h =
+    All-cons (λ c. IfSome c.sector P) _ _ (h 0 s (omega arith)) (cells_of-hold P kinds sectors (All-tail P s sectors h))
+cells_of-hold P (Mapped d ∷ kinds) [] h = All-cons (λ c. IfSome c.sector P) _ _ tt (cells_of-hold P kinds [] h)
+cells_of-hold P (Mapped d ∷ kinds) (s ∷ sectors) h =
+    All-cons (λ c. IfSome c.sector P) _ _ (h 0 s (omega arith)) (cells_of-hold P kinds sectors (All-tail P s sectors h))
+
+-- the blocks have the kinds that they were made of
+pub kinds-cells_of : (kinds : List Kind) (sectors : List DeviceBlock) → map (λ c. c.kind) (cells_of kinds sectors) ≡ kinds
+kinds-cells_of [] sectors = refl
+kinds-cells_of (kind ∷ kinds) sectors = ap (λ l. kind ∷ l) (kinds-cells_of kinds (sectors_after kind sectors))
+
+-- the kind of the i-th block
+pub get_or-kinds_from : (extents : List Extent) (b n i : ℕ) (d : Kind) → i < n → get_or (kinds_from extents b n) i d ≡ kind_at extents (b + i)
+get_or-kinds_from extents b zero i d h = absurd (omega arith)
+get_or-kinds_from extents b (suc n) zero d h = ap (kind_at extents) (sym (add-zero b))
+get_or-kinds_from extents b (suc n) (suc i) d h = get_or-kinds_from extents (b + 1) n i d (omega arith) ∙ ap (kind_at extents) (omega arith)

@@ -15,4 +15,5 @@ pub use cell::Cell;
 pub use end::RangeEnd;
 pub use fault::EventFault;
 pub use io_model::{BlockEnd, Extent, Kind};
-pub use range::{Pages, Range};
+pub use range::Range;
+pub use transfer::Pages;

@@ -12,16 +12,12 @@ use crate::merge::merge_kinds;
 use crate::open::build_cells;
 use crate::run::run_at;
 use crate::stamps::{add_stamps, end_blocks, stamp_done};
-use crate::transfer::read_block_run;
-use arrayvec::ArrayVec;
+use crate::transfer::{Pages, read_block_run};
 use fault_device::{Lane, Part};
 use io_model::Extent;
-use iob_base::{Geometry, Items, Mode, Page, Sector, Stamp, Tag};
+use iob_base::{Geometry, Items, Mode, Sector, Stamp, Tag};
 use std::alloc::{AllocError, Global};
 use std::marker::Model;
-
-/// The pages of one transfer.
-pub type Pages = ArrayVec<Page, 16, Global>;
 
 /// A run of blocks of one file. Contracts see it as a `RangeView`.
 ///

@@ -13,6 +13,9 @@ use iob_base::{Items, Page};
 use std::alloc::Global;
 use std::mem;
 
+/// The pages of one transfer.
+pub type Pages = ArrayVec<Page, 16, Global>;
+
 /// One read of the lane from these blocks to these pages, which all come back to their places.
 pub(crate) fn read_run(
     cells: &mut [Cell],
@@ -108,7 +111,7 @@ pub(crate) fn read_block_run(
     cells: &mut Vec<Cell>,
     at: usize,
     n: usize,
-    pages: &mut ArrayVec<Page, 16, Global>,
+    pages: &mut Pages,
     parts: &mut Vec<Part>,
     lane: &mut Lane,
 ) -> Done

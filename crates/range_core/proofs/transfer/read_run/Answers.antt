@@ -9,7 +9,7 @@ use Rattle.range_core.proofs.transfer.read_run.Goals as goal
 pub move_parts-done-requires : goal.move_parts-done-requires
 move_parts-done-requires g c =
     let P : List Part → Type 0 = λ ps. CanTransfer ps in
-    let same : parts_of c.args.cells.now c.args.pages.now ≡ c.lend.new.parts.items = sym c.lend.ensures.parts in
+    let same : parts_of c.args.cells.now c.args.pages.now ≡ c.lend.new.parts.items = sym {A = List Part} c.lend.ensures.parts in
     subst P same (parts_of-can c.args.cells.now c.args.pages.now c.requires.ready c.requires.some c.requires.few)
 
 pub give_back-requires-clause-cells : goal.give_back-requires-clause-cells
