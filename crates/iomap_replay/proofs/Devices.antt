@@ -1,5 +1,5 @@
 -- The blocks of a device, one list of given blocks after the other.
-use Rattle.std.proofs.Common.{◌≡◌, ℕ, zero, suc, ◌+◌, ◌<◌, ◌≤◌, List, [], ◌∷◌, ◌++◌, length, replicate, refl, sym, ap, ◌∙◌, arith, true, false, nat_eq, nat_lt, Bool, ◌&&◌, eq-eqb, add-zero, drop, get_or, if◌then◌else◌, drop-cons, ◌-◌}
+use Rattle.std.proofs.Common.{◌≡◌, ℕ, zero, suc, ◌+◌, ◌<◌, ◌≤◌, List, [], ◌∷◌, ◌++◌, length, replicate, refl, sym, ap, ◌∙◌, arith, true, false, nat_eq, nat_lt, Bool, ◌&&◌, eq-eqb, add-zero, drop, get_or, if◌then◌else◌, drop-cons, ◌-◌, take}
 use Rattle.std.proofs.lemmas.Bool.{eqb-true, ltb-true}
 use Rattle.std.specs.List.{list_all}
 use Rattle.std.proofs.Math.ListN.{set}
@@ -107,3 +107,18 @@ set-next_given given others n left g some within is below =
     let after : suc (left - 1) ≡ left = omega arith in
     let same : drop (left - 1) given ≡ g ∷ drop left given = next ∙ ap (λ h. h ∷ drop (suc (left - 1)) given) (sym is) ∙ ap (λ k. g ∷ drop k given) after in
     set-blocks_with (drop left given) others g.1 g.0 0 n g.0 (omega arith) below ∙ ap (λ gs. blocks_with (content_given gs others) 0 n) (sym same)
+
+-- the blocks after the first so many
+pub drop-blocks_with : (content : ℕ → Content) (d n k : ℕ) → drop k (blocks_with content d n) ≡ blocks_with content (d + k) (n - k)
+drop-blocks_with content d n zero = rw (add-zero d) (let all : n ≡ n - 0 = omega arith in ap (blocks_with content d) all)
+drop-blocks_with content d zero (suc k) = let none : 0 ≡ 0 - suc k = omega arith in ap (blocks_with content (d + suc k)) none
+drop-blocks_with content d (suc n) (suc k) =
+    let place : d + 1 + k ≡ d + suc k = omega arith in
+    let many : n - k ≡ suc n - suc k = omega arith in
+    drop-blocks_with content (d + 1) n k ∙ ap (λ p. blocks_with content p (n - k)) place ∙ ap (blocks_with content (d + suc k)) many
+
+-- the first so many blocks
+pub take-blocks_with : (content : ℕ → Content) (d n k : ℕ) → k ≤ n → take k (blocks_with content d n) ≡ blocks_with content d k
+take-blocks_with content d n zero within = refl
+take-blocks_with content d zero (suc k) within = absurd (omega arith)
+take-blocks_with content d (suc n) (suc k) within = ap (λ bs. device_block d (content d) ∷ bs) (take-blocks_with content (d + 1) n k (omega arith))

@@ -1,7 +1,11 @@
 pub mod Cuts
 pub mod Devices
+pub mod OneBlock
 pub mod OneContents
+pub mod OneFile
+pub mod OneRange
 pub mod OneRead
+pub mod RightRun
 pub mod Shapes
 pub mod Spans
 pub mod Tables

@@ -13,7 +13,8 @@ use Rattle.io_model.specs.Kinds.{covers, kind_after, kind_at, mapped_number, dev
 use Rattle.io_model.specs.Lists.{bytes_between, same}
 use Rattle.io_model.specs.Fitting.{has_size}
 use Rattle.io_model.specs.Parts.{Span, span, part_in}
-use Rattle.io_model.specs.Reads.{gives_block}
+use Rattle.io_model.specs.Reads.{gives_block, stamps_before}
+use Rattle.io_model.specs.Effects.{replayed}
 use Rattle.io_model.specs.declared.file.BlockEnd.{BlockEnd}
 use Rattle.io_model.specs.declared.file.Extent.{Extent}
 use Rattle.io_model.specs.declared.file.Kind.{Kind}
@@ -68,9 +69,53 @@ pub length-device_bytes : (name : Word) (job : Job) (given : List (ℕ × List �
 length-device_bytes name job given d shape whole =
     length-given_or job.device given (replicate job.geometry.block_size job.device.fill) d whole (length-replicate _ _ ∙ shape.size) ∙ sym shape.size
 
+-- a range of a content, cut as the definition cuts it
+between-place : (content : Content) (low from n : ℕ) → low ≤ from → bytes_between (from - low) (from + n - low) content ≡ take n (drop (from - low) content)
+between-place content low from n within =
+    let long : from + n - low - (from - low) ≡ n = omega (arith, within) in
+    ap (λ k. take k (drop (from - low) content)) long
+
+-- all bytes that were read, cut as the definition cuts them
+between-all : (got : List ℕ) (from n : ℕ) → length got ≡ n → bytes_between (from - from) (from + n - from) got ≡ got
+between-all got from n many =
+    let begin : from - from ≡ 0 = omega arith in
+    let long : from + n - from - (from - from) ≡ n = omega arith in
+    ap (λ k. take k (drop (from - from) got)) long ∙ ap (λ k. take n (drop k got)) begin ∙ take_all n got (omega (arith, many))
+
 -- what the read gave of its block is what the block had
 pub gives-here : (name : Word) (job : Job) (given : List (ℕ × List ℕ)) (b : ℕ) (end : CallEnd) (block : BlockEnd) → IsAt job b
-    → end.answer.reply ≡ Ok job.asked.length Whole → block.journal ≡ read_stamp ∷ []
+    → end.answer.reply ≡ Ok job.asked.length Whole → block.journal ≡ read_stamp ∷ [] → length end.got ≡ job.asked.length
     → end.got ≡ take job.asked.length (drop (job.asked.off - b * job.geometry.block_size) (opening_content (script_of_job name job given) 0 b))
     → gives_block (script_of_job name job given) 1 (one_call job.asked) end b block ≡ true
-gives-here name job given b end block at reply journal got = ?
+gives-here name job given b end block at reply journal many got =
+    let script = script_of_job name job given in
+    let size = job.geometry.block_size in
+    let off = job.asked.off in
+    let n = job.asked.length in
+    let opening = opening_content script 0 b in
+    let cut : Span → Bool = λ part. bytes_eq (bytes_between (part.from - off) (part.to - off) end.got) (bytes_between (part.from - b * size) (part.to - b * size) opening) in
+    let part : part_in size (answered_span script (one_call job.asked) end.answer.reply) b ≡ span off (off + n) =
+        ap (λ r. part_in size (answered_span script (one_call job.asked) r) b) reply
+        ∙ ap (λ s. part_in size s b) (answered-whole name job given b at) ∙ part_in-here size b off n at.lies in
+    let equal : cut (span off (off + n)) ≡ true =
+        ap (λ bytes. bytes_eq bytes (bytes_between (off - b * size) (off + n - b * size) opening)) (between-all end.got off n many)
+        ∙ ap (λ bytes. bytes_eq end.got bytes) (between-place opening (b * size) off n at.lies.low ∙ sym got) ∙ bytes_eq-refl end.got in
+    let answered : is_answered script (one_call job.asked) end.answer.reply b ≡ true =
+        ap (λ r. is_answered script (one_call job.asked) r b) reply ∙ is_answered-here name job given b at in
+    ap (λ stamps. not (is_answered script (one_call job.asked) end.answer.reply b)
+        || bytes_eq (bytes_between ((part_in size (answered_span script (one_call job.asked) end.answer.reply) b).from - off)
+             ((part_in size (answered_span script (one_call job.asked) end.answer.reply) b).to - off) end.got)
+           (bytes_between ((part_in size (answered_span script (one_call job.asked) end.answer.reply) b).from - b * size)
+             ((part_in size (answered_span script (one_call job.asked) end.answer.reply) b).to - b * size) (replayed script 0 b (stamps_before 1 stamps)))) journal
+    ∙ ap (λ (t : Bool). not t || cut (part_in size (answered_span script (one_call job.asked) end.answer.reply) b)) answered
+    ∙ ap cut part ∙ equal
+
+-- a block that was not answered is not asked after
+pub gives-elsewhere : (name : Word) (job : Job) (given : List (ℕ × List ℕ)) (c : ℕ) (end : CallEnd) (block : BlockEnd)
+    → is_answered (script_of_job name job given) (one_call job.asked) end.answer.reply c ≡ false
+    → gives_block (script_of_job name job given) 1 (one_call job.asked) end c block ≡ true
+gives-elsewhere name job given c end block none = not_asked _ _ none
+  where
+    not_asked : (t u : Bool) → t ≡ false → (not t || u) ≡ true
+    not_asked true u e = cc
+    not_asked false u e = refl

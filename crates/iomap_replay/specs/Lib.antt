@@ -1,3 +1,4 @@
+pub mod Causes
 pub mod Devices
 pub mod Facts
 pub mod Fields
@@ -5,6 +6,7 @@ pub mod Jobs
 pub mod Lines
 pub mod Numbers
 pub mod OnePread
+pub mod OneRead
 pub mod Runs
 pub mod Streams
 pub mod Words

@@ -6,6 +6,8 @@ mod device;
 mod fields;
 mod lines;
 mod numbers;
+mod range;
+mod read;
 mod script;
 mod streams;
 mod words;

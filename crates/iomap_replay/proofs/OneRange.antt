@@ -1,0 +1,88 @@
+-- The one range: that it can be opened, and what can be read of it at once.
+use Rattle.std.proofs.Common.{◌≡◌, ℕ, zero, suc, ◌+◌, ◌-◌, ◌<◌, ◌≤◌, List, [], ◌∷◌, Some, None, Option, length, map, take, drop, replicate, refl, sym, ap, ◌∙◌, arith, subst, lit≤}
+use Rattle.std.specs.Prelude.{max, IsTrue, All, IfSome, is_some, ◌^◌}
+use Rattle.std.specs.List.{filter_map, cons_option, AllByRecursion, list_all}
+use Rattle.std.proofs.lemmas.List.Elements.{All-from_recursion}
+use Rattle.iob_base.specs.DeviceBlock.{DeviceBlock, device_block}
+use Rattle.io_model.specs.Contents.{Content, device_bytes}
+use Rattle.io_model.specs.Kinds.{covers, kind_after, kind_at, mapped_number, device_number}
+use Rattle.io_model.specs.declared.file.Extent.{Extent}
+use Rattle.io_model.specs.declared.file.Kind.{Kind}
+use Rattle.io_model.specs.declared.file.Kind.TheVariants.{Hole, Mapped}
+use Rattle.io_model.specs.declared.script.Script.{Script}
+use Rattle.iomap_replay.proofs.Devices.{drop-blocks_with, take-blocks_with}
+use Rattle.iomap_replay.proofs.OneContents.{length-device_bytes}
+use Rattle.iomap_replay.proofs.OneFile.{rest_at, Steps, steps, start_rest}
+use Rattle.iomap_replay.specs.Devices.{blocks_with, content_given, first_number}
+use Rattle.iomap_replay.specs.Facts.{IsShape, LiesOn}
+use Rattle.iomap_replay.specs.Jobs.{IsJobOf, script_of_job}
+use Rattle.iomap_replay.specs.declared.script.Job.{Job}
+use Rattle.range_core.specs.Kinds.{HasNumbers, kinds_from, numbers_of}
+use Rattle.range_core.specs.Opening.{CanOpen, LiesIn}
+
+-- the device as it was made is the device of the script
+pub device_is : (script : Script) (job : Job) (n : ℕ) → IsJobOf script job
+    → blocks_with (content_given script.blocks (replicate job.device.block_size job.device.fill)) 0 n ≡ blocks_with (device_bytes script) 0 n
+device_is script job n of =
+    let others : replicate script.geometry.block_size script.fill ≡ replicate job.device.block_size job.device.fill =
+        ap (λ (s : Script). replicate s.geometry.block_size s.fill) of.is ∙ ap (λ size. replicate size job.device.fill) of.shape.size in
+    ap (λ bytes. blocks_with (content_given script.blocks bytes) 0 n) (sym others)
+
+-- the blocks of the extent are cut out of the device
+pub own_is : (content : ℕ → Content) (d n blocks : ℕ) → d + n ≤ blocks → take n (drop d (blocks_with content 0 blocks)) ≡ blocks_with content d n
+own_is content d n blocks within =
+    let place : 0 + d ≡ d = omega arith in
+    ap (take n) (drop-blocks_with content 0 blocks d ∙ ap (λ p. blocks_with content p (blocks - d)) place)
+    ∙ take-blocks_with content d (blocks - d) n (omega arith)
+
+-- the device number of a mapped extent
+pub first_is : (e : Extent) (d : ℕ) → e.kind ≡ Mapped d → first_number e.kind ≡ d
+first_is e d kind = ap first_number kind
+
+-- every block has its bytes
+all_whole : (content : ℕ → Content) (size d n : ℕ) → ((i : ℕ) → length (content i) ≡ size) → AllByRecursion (λ (s : DeviceBlock). length s.bytes ≡ size) (blocks_with content d n)
+all_whole content size d zero whole = tt
+all_whole content size d (suc n) whole = (whole d, all_whole content size (d + 1) n whole)
+
+-- the numbers of the sectors that are left are those that the kinds from here on name
+numbers-from : (content : ℕ → Content) (e : Extent) (d : ℕ) → e.kind ≡ Mapped d → (b n : ℕ) → e.block + e.length ≤ b + n
+    → map (λ (s : DeviceBlock). s.number) (rest_at content d e.block (e.block + e.length) b) ≡ numbers_of (kinds_from (e ∷ []) b n)
+numbers-from content e d kind b zero within =
+    let none : e.block + e.length - max b e.block ≡ 0 = omega (arith, within) in
+    ap (λ m. map (λ (s : DeviceBlock). s.number) (blocks_with content (d + (b - e.block)) m)) none
+numbers-from content e d kind b (suc n) within =
+    (steps content e d b kind).numbers ∙ ap (cons_option (device_number (kind_at (e ∷ []) b))) (numbers-from content e d kind (b + 1) n (omega (arith, within)))
+
+lies_in : (e : Extent) (d blocks device_blocks : ℕ) → e.kind ≡ Mapped d → LiesOn blocks device_blocks e → device_blocks ≤ 65536 → d + e.length ≤ device_blocks → LiesIn 0 blocks e
+lies_in e d blocks device_blocks kind on few within =
+    let K : Kind → Type 0 = λ k. IfSome (device_number k) (λ m. m + e.length ≤ 2 ^ 32) in
+    record {
+      placed = ap (λ k. is_some (device_number k)) kind;
+      low = omega arith;
+      high = omega (arith, on.inside);
+      numbers = subst K (sym kind) (omega (arith, few, within));
+    }
+
+-- the range can be opened
+pub can_open : (script : Script) (job : Job) (own : List DeviceBlock) → IsJobOf script job
+    → own ≡ blocks_with (device_bytes script) (first_number job.extent.kind) job.extent.length
+    → CanOpen job.geometry.block_size 0 job.blocks (job.extent ∷ []) own 0
+can_open script job own of is =
+    let on = of.shape.tail.extent in
+    let d = on.mapped.0 in
+    let kind = on.mapped.1 in
+    let size = job.geometry.block_size in
+    let content : ℕ → Content = device_bytes script in
+    let own_are : own ≡ blocks_with content d job.extent.length = is ∙ ap (λ n. blocks_with content n job.extent.length) (first_is job.extent d kind) in
+    let whole : (i : ℕ) → length (content i) ≡ size =
+        λ i. ap (λ (s : Script). length (device_bytes s i)) of.is ∙ length-device_bytes of.name job script.blocks i of.shape of.whole in
+    let W : List DeviceBlock → Type 0 = λ all. All (λ (s : DeviceBlock). length s.bytes ≡ size) all in
+    record {
+      some = omega (arith, of.shape.tail.some);
+      few = omega (arith, of.shape.tail.few);
+      inside = All-from_recursion (LiesIn 0 job.blocks) (job.extent ∷ []) (lies_in job.extent d job.blocks job.device.blocks kind on of.shape.device.few on.mapped.2, tt);
+      sectors_are = ap (map (λ (s : DeviceBlock). s.number)) (own_are ∙ sym (start_rest content job.extent d))
+        ∙ numbers-from content job.extent d kind 0 job.blocks (omega (arith, on.inside));
+      whole = subst W (sym own_are) (All-from_recursion (λ (s : DeviceBlock). length s.bytes ≡ size) _ (all_whole content size d job.extent.length whole));
+      unworn = lit≤ tt;
+    }

@@ -1,0 +1,62 @@
+use Rattle.std.specs.Prelude.{◌≡◌, ℕ, ◌-◌, ◌*◌, ◌/◌, false, List, [], ◌∷◌, length, take, drop}
+use Rattle.std.specs.Bool.{MatchBool}
+use Rattle.iob_base.specs.declared.answer.Fault.{Fault}
+use Rattle.iob_base.specs.declared.answer.Fault.TheVariants.{Eio}
+use Rattle.iob_base.specs.declared.answer.Reply.TheVariants.{Ok, Err}
+use Rattle.iob_base.specs.declared.answer.Stop.TheVariants.{Whole}
+use Rattle.iob_base.specs.declared.stamp.Mode.TheVariants.{Cached}
+use Rattle.io_model.specs.Contents.{device_bytes, opening_content}
+use Rattle.io_model.specs.Fitting.{is_again}
+use Rattle.io_model.specs.RunText.{is_error}
+use Rattle.io_model.specs.declared.run.CallEnd.{CallEnd}
+use Rattle.io_model.specs.declared.script.Script.{Script}
+use Rattle.iomap_replay.specs.Devices.{blocks_with, first_number}
+use Rattle.iomap_replay.specs.Runs.{read_stamp}
+use Rattle.iomap_replay.specs.declared.script.Job.{Job}
+use Rattle.range_core.specs.Events.{with_stamps}
+use Rattle.range_core.specs.RangeView.{RangeView, range_of}
+
+-- the block in which the range of the call lies
+abbrev pub block_of : Job → ℕ
+block_of job = job.asked.off / job.device.block_size
+
+-- the range of the one file before the call
+abbrev pub opened_range : Script → Job → RangeView
+opened_range script job =
+    range_of job.geometry Cached 0 job.blocks (job.extent ∷ []) (blocks_with (device_bytes script) (first_number job.extent.kind) job.extent.length) 0
+
+-- how many bios a call sent that failed so
+abbrev pub bios_of : Fault → ℕ
+bios_of (Eio _ _ _) = 1
+bios_of _ = 0
+
+-- the read gave its whole range, and left one stamp on its block
+pub record GaveRange (script : Script) (job : Job) (end : CallEnd) (old new : RangeView) : Type 0 where
+  pub reply : end.answer.reply ≡ Ok job.asked.length Whole
+  pub bios : end.answer.bios ≡ 1
+  pub many : length end.got ≡ job.asked.length
+  pub got : end.got ≡ take job.asked.length (drop (job.asked.off - block_of job * job.geometry.block_size) (opening_content script 0 (block_of job)))
+  pub pages : end.pages ≡ []
+  pub left : new ≡ with_stamps old ((block_of job, read_stamp) ∷ [])
+
+-- the read failed, gave nothing and left all as it was
+pub record GaveNothing (end : CallEnd) (old new : RangeView) : Type 0 where
+  pub fault : Fault
+  pub reply : end.answer.reply ≡ Err fault 0
+  pub waited : is_again fault ≡ false
+  pub bios : end.answer.bios ≡ bios_of fault
+  pub got : end.got ≡ []
+  pub pages : end.pages ≡ []
+  pub left : new ≡ old
+
+-- the one of the two that the reply tells
+abbrev pub IsOutcome : Script → Job → CallEnd → RangeView → RangeView → Type 0
+IsOutcome script job end old new = MatchBool (is_error end.answer.reply) (GaveNothing end old new) (GaveRange script job end old new)
+
+-- the end of a read that gave so many bytes, which are these
+pub record IsWholeEnd (end : CallEnd) (n : ℕ) (bytes : List ℕ) : Type 0 where
+  pub reply : end.answer.reply ≡ Ok n Whole
+  pub bios : end.answer.bios ≡ 1
+  pub many : length end.got ≡ n
+  pub got : end.got ≡ bytes
+  pub pages : end.pages ≡ []
