@@ -1,7 +1,6 @@
 //! The lines of the calls and of the closes.
-ghost use Rattle.std.specs.Prelude.{◌≡◌, ◌++◌, OnOk};
+ghost use Rattle.std.specs.Prelude.{◌≡◌, OnOk};
 ghost use Rattle.io_model.specs.RunText.{call_line, call_lines, close_line, close_lines};
-ghost use Rattle.io_model.specs.Text.{◌⋅◌};
 ghost use Rattle.io_script.specs.Appending.{Appends};
 
 use crate::pages::append_pages;

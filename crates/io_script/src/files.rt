@@ -1,5 +1,5 @@
 //! The lines of the files: the journals, the extents, and the dirty blocks.
-ghost use Rattle.std.specs.Prelude.{◌≡◌, ◌++◌, decimal, codes, OnOk};
+ghost use Rattle.std.specs.Prelude.{◌≡◌, decimal, codes, OnOk};
 ghost use Rattle.io_model.specs.ReplyText.{hex_text};
 ghost use Rattle.io_model.specs.RunText.{
   dirty_line,
@@ -12,6 +12,7 @@ ghost use Rattle.io_model.specs.RunText.{
   mark_text,
   stamps_text,
 };
+ghost use Rattle.io_model.specs.Text.{◌⋅◌};
 ghost use Rattle.io_script.specs.Appending.{Appends};
 
 use crate::hexadecimal::append_hex;
@@ -22,7 +23,7 @@ use std::alloc::AllocError;
 
 /// A word, the name of a file, and a number in it.
 fn append_place(text: &mut Vec<u8>, word: &[u8], name: &[u8], number: u64) -> Result<(), AllocError>
-    ensures { OnOk result (Appends (λ rest. word.now ++ (name.now ++ (codes " " ++ (decimal number ++ rest)))) text.old.items text.new.items) }
+    ensures { OnOk result (Appends (λ rest. word.now ⋅ name.now ⋅ codes " " ⋅ decimal number ⋅ rest) text.old.items text.new.items) }
 {
     append_word(text, word)?;
     append_word(text, name)?;
@@ -42,7 +43,7 @@ fn mark_letter(mark: Mark) -> &'static [u8]
 
 /// A stamp, after a blank.
 fn append_stamp(text: &mut Vec<u8>, stamp: Stamp) -> Result<(), AllocError>
-    ensures { OnOk result (Appends (λ rest. codes " " ++ (decimal stamp.call ++ (mark_text stamp.mark ++ rest))) text.old.items text.new.items) }
+    ensures { OnOk result (Appends (λ rest. codes " " ⋅ decimal stamp.call ⋅ mark_text stamp.mark ⋅ rest) text.old.items text.new.items) }
 {
     append_counted(text, b" ", u64::from(stamp.call))?;
     append_word(text, mark_letter(stamp.mark))
@@ -105,7 +106,7 @@ fn append_mapping(
     kind: &[u8],
     number: u32,
 ) -> Result<(), AllocError>
-    ensures { OnOk result (Appends (λ rest. map_start name.now extent (kind.now ++ (decimal number ++ (codes "\n" ++ rest)))) text.old.items text.new.items) }
+    ensures { OnOk result (Appends (λ rest. map_start name.now extent (kind.now ⋅ decimal number ⋅ codes "\n" ⋅ rest)) text.old.items text.new.items) }
 {
     append_map_start(text, name, extent)?;
     append_counted(text, kind, u64::from(number))?;
@@ -145,7 +146,7 @@ pub fn append_bytes(
     b: u64,
     bytes: &[u8],
 ) -> Result<(), AllocError>
-    ensures { OnOk result (Appends (λ rest. word.now ++ (name.now ++ (codes " " ++ (decimal b ++ (codes " " ++ (hex_text bytes.now ++ (codes "\n" ++ rest))))))) text.old.items text.new.items) }
+    ensures { OnOk result (Appends (λ rest. word.now ⋅ name.now ⋅ codes " " ⋅ decimal b ⋅ codes " " ⋅ hex_text bytes.now ⋅ codes "\n" ⋅ rest) text.old.items text.new.items) }
 {
     append_place(text, word, name, b)?;
     append_word(text, b" ")?;

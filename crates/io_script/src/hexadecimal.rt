@@ -1,7 +1,8 @@
 //! Bytes in hexadecimal.
-ghost use Rattle.std.specs.Prelude.{◌≡◌, ◌≤◌, ◌++◌, length, OnOk};
+ghost use Rattle.std.specs.Prelude.{◌≡◌, ◌≤◌, length, OnOk};
 ghost use Rattle.hex.specs.Hex.{encode_lower};
 ghost use Rattle.io_model.specs.ReplyText.{hex_text};
+ghost use Rattle.io_model.specs.Text.{◌⋅◌};
 ghost use Rattle.io_script.specs.Appending.{Appends};
 
 use std::alloc::AllocError;
@@ -12,7 +13,7 @@ const CHUNK: usize = 128;
 /// The digits of a few bytes.
 fn append_chunk(text: &mut Vec<u8>, chunk: &[u8]) -> Result<(), AllocError>
     requires { length chunk.now ≤ 128 }
-    ensures { OnOk result (Appends (λ rest. encode_lower chunk.now ++ rest) text.old.items text.new.items) }
+    ensures { OnOk result (Appends (λ rest. encode_lower chunk.now ⋅ rest) text.old.items text.new.items) }
 {
     let mut buffer = [0u8; 256];
     let digits = &mut buffer[..2 * chunk.len()];
@@ -22,7 +23,7 @@ fn append_chunk(text: &mut Vec<u8>, chunk: &[u8]) -> Result<(), AllocError>
 
 /// The digits of all bytes.
 fn append_digits(text: &mut Vec<u8>, bytes: &[u8]) -> Result<(), AllocError>
-    ensures { OnOk result (Appends (λ rest. encode_lower bytes.now ++ rest) text.old.items text.new.items) }
+    ensures { OnOk result (Appends (λ rest. encode_lower bytes.now ⋅ rest) text.old.items text.new.items) }
 {
     let mut left = bytes;
     while left.len() > CHUNK {
@@ -36,7 +37,7 @@ fn append_digits(text: &mut Vec<u8>, bytes: &[u8]) -> Result<(), AllocError>
 
 /// Bytes in lower case hexadecimal, or a dash where there are none.
 pub fn append_hex(text: &mut Vec<u8>, bytes: &[u8]) -> Result<(), AllocError>
-    ensures { OnOk result (Appends (λ rest. hex_text bytes.now ++ rest) text.old.items text.new.items) }
+    ensures { OnOk result (Appends (λ rest. hex_text bytes.now ⋅ rest) text.old.items text.new.items) }
 {
     if bytes.is_empty() {
         return text.extend_from_slice(b"-");

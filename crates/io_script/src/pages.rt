@@ -1,6 +1,7 @@
 //! The user pages of a direct call.
-ghost use Rattle.std.specs.Prelude.{◌≡◌, ◌+◌, ◌==◌, ◌++◌, ◌∷◌, decimal, codes, OnOk};
+ghost use Rattle.std.specs.Prelude.{◌≡◌, ◌+◌, ◌==◌, ◌∷◌, decimal, codes, OnOk};
 ghost use Rattle.io_model.specs.RunText.{page_runs, pages_text, runs_text};
+ghost use Rattle.io_model.specs.Text.{◌⋅◌};
 ghost use Rattle.io_script.specs.Appending.{Appends};
 
 use crate::pieces::{append_counted, append_number, append_word};
@@ -20,7 +21,7 @@ fn goes_on(first: u64, count: u64, page: u64) -> bool
 
 /// A run of pages.
 fn append_run(text: &mut Vec<u8>, first: u64, count: u64) -> Result<(), AllocError>
-    ensures { OnOk result (Appends (λ rest. decimal first ++ (codes "+" ++ (decimal count ++ rest))) text.old.items text.new.items) }
+    ensures { OnOk result (Appends (λ rest. decimal first ⋅ codes "+" ⋅ decimal count ⋅ rest) text.old.items text.new.items) }
 {
     append_number(text, first)?;
     append_counted(text, b"+", count)

@@ -1,7 +1,8 @@
 //! The reply of a call.
-ghost use Rattle.std.specs.Prelude.{◌≡◌, ◌++◌, decimal, codes, OnOk, if◌then◌else◌};
+ghost use Rattle.std.specs.Prelude.{◌≡◌, decimal, codes, OnOk, if◌then◌else◌};
 ghost use Rattle.io_model.specs.Calls.{is_direct, is_read};
 ghost use Rattle.io_model.specs.ReplyText.{fault_text, hex_text, reply_text, stop_text, verb_text};
+ghost use Rattle.io_model.specs.Text.{◌⋅◌};
 ghost use Rattle.io_script.specs.Appending.{Appends};
 
 use crate::hexadecimal::append_hex;
@@ -87,7 +88,7 @@ fn append_pair(
     more: &[u8],
     another: u64,
 ) -> Result<(), AllocError>
-    ensures { OnOk result (Appends (λ rest. word.now ++ (decimal number ++ (more.now ++ (decimal another ++ rest)))) text.old.items text.new.items) }
+    ensures { OnOk result (Appends (λ rest. word.now ⋅ decimal number ⋅ more.now ⋅ decimal another ⋅ rest) text.old.items text.new.items) }
 {
     append_counted(text, word, number)?;
     append_counted(text, more, another)
@@ -134,7 +135,7 @@ pub fn moves_pages(verb: &Verb) -> bool
 
 /// The bytes of a read, and how a call stopped.
 fn append_success(text: &mut Vec<u8>, verb: &Verb, got: &[u8], stop: Stop) -> Result<(), AllocError>
-    ensures { OnOk result (Appends (λ rest. if is_read verb.now then codes " " ++ (hex_text got.now ++ stop_text stop rest) else stop_text stop rest) text.old.items text.new.items) }
+    ensures { OnOk result (Appends (λ rest. if is_read verb.now then codes " " ⋅ hex_text got.now ⋅ stop_text stop rest else stop_text stop rest) text.old.items text.new.items) }
 {
     if !reads(verb) {
         return append_stop(text, stop);
@@ -146,7 +147,7 @@ fn append_success(text: &mut Vec<u8>, verb: &Verb, got: &[u8], stop: Stop) -> Re
 
 /// How many blocks a direct call sent.
 fn append_sent(text: &mut Vec<u8>, verb: &Verb, sent: u64) -> Result<(), AllocError>
-    ensures { OnOk result (Appends (λ rest. if is_direct verb.now then codes " sent " ++ (decimal sent ++ rest) else rest) text.old.items text.new.items) }
+    ensures { OnOk result (Appends (λ rest. if is_direct verb.now then codes " sent " ⋅ decimal sent ⋅ rest else rest) text.old.items text.new.items) }
 {
     if !moves_pages(verb) {
         return Ok(());

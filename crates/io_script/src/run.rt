@@ -3,6 +3,7 @@ ghost use Rattle.std.specs.Prelude.{◌≡◌, ◌++◌, decimal, codes, length,
 ghost use Rattle.std.specs.List.{list_all, sum_by};
 ghost use Rattle.io_model.specs.Fitting.{Fits, is_merged_from};
 ghost use Rattle.io_model.specs.RunText.{file_lines, files_lines, image_lines, lane_line, lane_lines, run_text};
+ghost use Rattle.io_model.specs.Text.{◌⋅◌};
 ghost use Rattle.io_script.specs.Appending.{Appends};
 
 use crate::calls::{append_calls, append_closes};
@@ -96,13 +97,14 @@ fn bios_of(calls: &[CallEnd]) -> u128
     sum
 }
 
-/// How many blocks of the device no file has, and how many bios the calls sent.
-fn append_counts(text: &mut Vec<u8>, free: usize, calls: &[CallEnd]) -> Result<(), AllocError>
-    ensures { OnOk result (Appends (λ rest. codes "free " ++ (decimal free ++ (codes "\nbios " ++ (decimal (sum_by (λ end. end.answer.bios) calls.now) ++ (codes "\n" ++ rest))))) text.old.items text.new.items) }
+/// How many blocks of the device no file has, and how many bios were sent.
+fn append_counts(text: &mut Vec<u8>, free: usize, bios: u128) -> Result<(), AllocError>
+    ensures { OnOk result
+        (Appends (λ rest. codes "free " ⋅ decimal free ⋅ codes "\nbios " ⋅ decimal bios ⋅ codes "\n" ⋅ rest) text.old.items text.new.items) }
 {
     append_counted(text, b"free ", free as u64)?;
     append_word(text, b"\nbios ")?;
-    append_total(text, bios_of(calls))?;
+    append_total(text, bios)?;
     append_word(text, b"\n")
 }
 
@@ -120,7 +122,7 @@ fn append_run(text: &mut Vec<u8>, script: &Script, run: &Run, image: bool) -> Re
         script.names.as_slice(),
         run.ends.files.as_slice(),
     )?;
-    append_counts(text, run.ends.free.len(), run.calls.as_slice())?;
+    append_counts(text, run.ends.free.len(), bios_of(run.calls.as_slice()))?;
     append_lanes(text, run.lanes.as_slice())?;
     text.extend_from_slice(b"end\n")
 }
