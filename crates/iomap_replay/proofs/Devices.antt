@@ -81,7 +81,7 @@ length-given_or device [] others d all size = size
 length-given_or device (g ∷ gs) others d all size =
     let whole = and-left (is_whole device g) (list_all (is_whole device) gs) all in
     given_case (nat_eq g.0 d) _ _ device.block_size (eqb-true _ _ (and-right (nat_lt g.0 device.blocks) (nat_eq (length g.1) device.block_size) whole))
-      (length-given_or device gs others d (and-right (is_whole device g) (list_all (is_whole device) gs) all) size)
+    (length-given_or device gs others d (and-right (is_whole device g) (list_all (is_whole device) gs) all) size)
   where
     given_case : (b : Bool) (xs ys : Content) (n : ℕ) → length xs ≡ n → length ys ≡ n → length (if b then xs else ys) ≡ n
     given_case true xs ys n left right = left

@@ -1,17 +1,15 @@
 -- What an ending says, from what was read to what was written.
-use Rattle.std.proofs.Common.{◌≡◌, ℕ, ◌<◌, ◌≤◌, Bool, true, false, List, [], Option, Some, None, length, nat_le, ◌&&◌, ◌⊎◌, subst, sym, ◌∙◌, ap, refl, inl, inr, arith}
+use Rattle.std.proofs.Common.{◌≡◌, ℕ, ◌<◌, ◌≤◌, Bool, true, false, List, Option, Some, None, length, nat_le, ◌&&◌, ◌⊎◌, subst, sym, ◌∙◌, ap, refl, inl, inr, arith}
 use Rattle.iob_base.specs.Counts.{Rose}
 use Rattle.std.proofs.lemmas.Bool.{leb-true, leb-false, lt-leb}
-use Rattle.std.specs.Option.{IfSome}
 use Rattle.fault_device.specs.Opening.{Opening}
-use Rattle.iob_base.specs.Outside.{KeepsTold}
 use Rattle.iomap_replay.specs.Endings.{IsWritten, IsAnswer, ShowsText, BeginsText, Ends, number_of}
 use Rattle.iomap_replay.specs.OnePread.{TEXT_LIMIT, script_of, script_of_lines}
 use Rattle.iomap_replay.specs.Fields.{provided}
 use Rattle.iomap_replay.specs.Words.{is_ended, kept_lines}
 use Rattle.io_model.specs.declared.script.Script.{Script}
-use Rattle.iomap_replay.specs.Statuses.{IsOutput, IsOutputOf, IsTextOf, NOT_YET, Refuses, Shows, ShowsRun, StopsShort, WasWhole}
-use Rattle.iomap_replay.specs.Streams.{ReadTold, WasRead, TookWhole, TookPrefix}
+use Rattle.iomap_replay.specs.Statuses.{IsOutput, IsTextOf, NOT_YET, Shows, ShowsRun, StopsShort, WasWhole}
+use Rattle.iomap_replay.specs.Streams.{ReadTold, TookWhole}
 use Rattle.iomap_replay.specs.declared.top.Ending.{Ending}
 use Rattle.iomap_replay.specs.declared.top.Ending.TheVariants.{Whole, Errors, Refused, SourceFailed, SinkFailed, NoMemory, BadWords}
 use Rattle.iomap_replay.specs.declared.top.Output.{Output}

@@ -1,7 +1,7 @@
 pub mod Cuts
 pub mod Devices
 pub mod Endings
-pub mod Fates
+pub mod Firsts
 pub mod OneBlock
 pub mod OneContents
 pub mod OneFile

@@ -1,7 +1,7 @@
 -- The one block that is read: its cell, its bytes, and what one event reads of it.
-use Rattle.std.proofs.Common.{◌≡◌, ℕ, zero, suc, ◌+◌, ◌-◌, ◌*◌, ◌/◌, ◌%◌, ◌<◌, ◌≤◌, Bool, true, List, [], ◌∷◌, Some, None, Option, nat_eq, if◌then◌else◌, length, take, drop, get_or, Result, Ok, Err, refl, sym, ap, ◌∙◌, arith, subst, eq-eqb}
+use Rattle.std.proofs.Common.{◌≡◌, ℕ, suc, ◌+◌, ◌-◌, ◌*◌, ◌%◌, ◌≤◌, Bool, true, List, [], ◌∷◌, Some, Option, nat_eq, if◌then◌else◌, length, take, drop, get_or, Result, Ok, Err, refl, sym, ap, ◌∙◌, arith, subst, eq-eqb}
 use Rattle.std.specs.Bool.{MatchBool}
-use Rattle.std.specs.Prelude.{IsTrue, is_some, All, IfOk}
+use Rattle.std.specs.Prelude.{IfOk}
 use Rattle.std.proofs.lemmas.Bool.{le-leb, lt-ltb}
 use Rattle.std.proofs.Math.Nat.{mod-eq-sub-div-mul}
 use Rattle.std.proofs.lemmas.List.Elements.{All-from_recursion}
@@ -17,13 +17,13 @@ use Rattle.io_model.specs.declared.script.Script.{Script}
 use Rattle.iomap_replay.proofs.OneContents.{length-device_bytes}
 use Rattle.iomap_replay.proofs.OneFile.{rest_at, inside, cells-dropped, start_rest}
 use Rattle.iomap_replay.proofs.OneRange.{first_is}
-use Rattle.iomap_replay.proofs.OneRead.{IsAt, is_at}
+use Rattle.iomap_replay.proofs.OneRead.{is_at}
 use Rattle.iomap_replay.specs.Devices.{blocks_with, first_number}
 use Rattle.iomap_replay.specs.Jobs.{IsJobOf, script_of_job}
 use Rattle.iomap_replay.specs.OneRead.{block_of, opened_range, GaveRange, GaveNothing, IsOutcome, IsWholeEnd}
 use Rattle.iomap_replay.specs.Runs.{read_stamp, sector_with}
 use Rattle.iomap_replay.specs.declared.script.Job.{Job}
-use Rattle.range_core.specs.Cells.{cell_of, cells_of, sectors_after}
+use Rattle.range_core.specs.Cells.{cells_of, sectors_after}
 use Rattle.range_core.specs.Events.{with_stamps}
 use Rattle.range_core.specs.Stamps.{stamps_from}
 use Rattle.range_core.specs.Kinds.{kinds_from}
@@ -56,10 +56,10 @@ here script job of =
     let many = job.blocks - b - 1 in
     let covered : covers e b ≡ true = rw (le-leb _ _ at.low, lt-ltb _ _ at.high) refl in
     let is : kind_at (e ∷ []) b ≡ Mapped m =
-        ap (λ (t : Bool). if t then kind_after e.kind (b - e.block) else Hole) covered ∙ ap (λ k. kind_after k (b - e.block)) kind in
+    ap (λ (t : Bool). if t then kind_after e.kind (b - e.block) else Hole) covered ∙ ap (λ k. kind_after k (b - e.block)) kind in
     let cells : ℕ → ℕ → List Cell = λ c n. cells_of (kinds_from (e ∷ []) c n) (rest_at content d e.block (e.block + e.length) c) in
     let first : blocks_with content (first_number e.kind) e.length ≡ rest_at content d e.block (e.block + e.length) 0 =
-        ap (λ n. blocks_with content n e.length) (first_is e d kind) ∙ sym (start_rest content e d) in
+    ap (λ n. blocks_with content n e.length) (first_is e d kind) ∙ sym (start_rest content e d) in
     let whole : b - 0 ≡ b = omega arith in
     let place : 0 + b ≡ b = omega arith in
     let left : job.blocks - b ≡ suc many = omega (arith, at.high, at.inside) in
@@ -69,13 +69,13 @@ here script job of =
       number = m;
       others = others;
       is = ap (λ sectors. drop (b - 0) (cells_of (kinds_from (e ∷ []) 0 job.blocks) sectors)) first
-        ∙ ap (λ k. drop k (cells 0 job.blocks)) whole
-        ∙ cells-dropped content e d kind b 0 job.blocks
-        ∙ ap (λ c. cells c (job.blocks - b)) place ∙ ap (cells b) left
-        ∙ ap (λ sector. cell sector (kind_at (e ∷ []) b) ∷ others) (inside content e d b kind at.low at.high).cell
-        ∙ ap (λ k. cell (sector_with content (mapped_number k)) k ∷ others) is;
+          ∙ ap (λ k. drop k (cells 0 job.blocks)) whole
+          ∙ cells-dropped content e d kind b 0 job.blocks
+          ∙ ap (λ c. cells c (job.blocks - b)) place ∙ ap (cells b) left
+          ∙ ap (λ sector. cell sector (kind_at (e ∷ []) b) ∷ others) (inside content e d b kind at.low at.high).cell
+          ∙ ap (λ k. cell (sector_with content (mapped_number k)) k ∷ others) is;
       bytes = ap (λ s. opening_content s 0 b) of.is ∙ ap (λ k. mapped_or_zeros (script_of_job of.name job script.blocks) (mapped_number k)) is
-        ∙ sym (ap (λ s. device_bytes s m) of.is);
+          ∙ sym (ap (λ s. device_bytes s m) of.is);
     }
 
 -- what one page has after the run that begins at a mapped block was read
@@ -127,7 +127,7 @@ was_read script job page filled pages n old new of opened run read left at =
     let cells : cells_from old b ≡ mapped_cell script h.number ∷ h.others = ap (λ r. cells_from r b) opened ∙ h.is in
     let one : n ≡ 1 = run ∙ ap (λ cs. run_length cs 1) cells ∙ one_run_length script h.number h.others in
     let pages_are : pages ≡ record page { bytes = device_bytes script h.number } ∷ [] =
-        read ∙ ap (λ k. pages_filled k (cells_from old b) (page ∷ [])) one ∙ ap (λ cs. pages_filled 1 cs (page ∷ [])) cells in
+    read ∙ ap (λ k. pages_filled k (cells_from old b) (page ∷ [])) one ∙ ap (λ cs. pages_filled 1 cs (page ∷ [])) cells in
     record {
       bytes_are = ap (λ (p : Page). p.bytes) at ∙ ap (λ ps. (get_or ps 0 filled).bytes) pages_are ∙ sym h.bytes;
       left = left ∙ ap (λ k. with_stamps old (stamps_from b k read_stamp)) one ∙ ap (λ r. with_stamps r ((b, read_stamp) ∷ [])) opened;
@@ -144,7 +144,7 @@ gave script job bytes end new of read end_is =
       bios = end_is.bios;
       many = end_is.many;
       got = end_is.got ∙ ap (λ bs. take n (drop (job.asked.off % job.device.block_size) bs)) read.bytes_are
-        ∙ ap (λ p. take n (drop p (opening_content script 0 b))) (place_is job of.shape.size);
+          ∙ ap (λ p. take n (drop p (opening_content script 0 b))) (place_is job of.shape.size);
       pages = end_is.pages;
       left = read.left;
     } in
@@ -157,7 +157,7 @@ pub reaches : (script : Script) (job : Job) (bytes : Content) (new : RangeView) 
 reaches script job bytes new of read =
     let h = here script job of in
     let sized : length (device_bytes script h.number) ≡ job.geometry.block_size =
-        ap (λ (s : Script). length (device_bytes s h.number)) of.is ∙ length-device_bytes of.name job script.blocks h.number of.shape of.whole in
+    ap (λ (s : Script). length (device_bytes s h.number)) of.is ∙ length-device_bytes of.name job script.blocks h.number of.shape of.whole in
     let many = ap length read.bytes_are ∙ ap length h.bytes ∙ sized ∙ of.shape.size in
     omega (arith, many, of.shape.tail.range.fits)
 

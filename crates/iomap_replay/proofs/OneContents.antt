@@ -1,14 +1,13 @@
 -- The contents of a file that was only read, and the bytes that the read gave.
-use Rattle.std.proofs.Common.{◌≡◌, ℕ, zero, suc, ◌+◌, ◌-◌, ◌*◌, ◌<◌, ◌≤◌, Bool, true, false, not, ◌&&◌, ◌||◌, List, [], ◌∷◌, Some, None, Option, nat_eq, nat_le, nat_lt, is_some, if◌then◌else◌, length, take, drop, replicate, refl, sym, ap, ◌∙◌, arith, eq-eqb}
+use Rattle.std.proofs.Common.{◌≡◌, ℕ, ◌+◌, ◌-◌, ◌*◌, ◌≤◌, Bool, true, false, not, ◌||◌, List, [], ◌∷◌, Some, None, Option, is_some, if◌then◌else◌, length, take, drop, replicate, refl, sym, ap, ◌∙◌, arith, eq-eqb}
 use Rattle.std.specs.List.{list_all}
 use Rattle.std.specs.Str.{bytes_eq}
-use Rattle.std.proofs.lemmas.List.{take_all, length-replicate, length-take-le}
-use Rattle.iob_base.specs.DeviceBlock.{DeviceBlock, device_block}
-use Rattle.iob_base.specs.declared.answer.Reply.TheVariants.{Ok, Err}
+use Rattle.std.proofs.lemmas.List.{take_all, length-replicate}
+use Rattle.iob_base.specs.declared.answer.Reply.TheVariants.{Ok}
 use Rattle.iob_base.specs.declared.answer.Stop.TheVariants.{Whole}
 use Rattle.io_model.specs.Answered.{answered_span, is_answered}
 use Rattle.io_model.specs.Contents.{Content, device_bytes, mapped_or_zeros, opening_content}
-use Rattle.io_model.specs.Finals.{device_content, final_content}
+use Rattle.io_model.specs.Finals.{device_content}
 use Rattle.io_model.specs.Kinds.{covers, kind_after, kind_at, mapped_number, device_number}
 use Rattle.io_model.specs.Lists.{bytes_between, same}
 use Rattle.io_model.specs.Fitting.{has_size}
@@ -17,13 +16,12 @@ use Rattle.io_model.specs.Reads.{gives_block, stamps_before}
 use Rattle.io_model.specs.Effects.{replayed}
 use Rattle.io_model.specs.declared.file.BlockEnd.{BlockEnd}
 use Rattle.io_model.specs.declared.file.Extent.{Extent}
-use Rattle.io_model.specs.declared.file.Kind.{Kind}
 use Rattle.io_model.specs.declared.file.Kind.TheVariants.{Hole, Mapped}
 use Rattle.io_model.specs.declared.run.CallEnd.{CallEnd}
 use Rattle.io_model.specs.declared.script.Script.{Script}
-use Rattle.iomap_replay.proofs.Devices.{length-given_or, list_all-here}
+use Rattle.iomap_replay.proofs.Devices.{length-given_or}
 use Rattle.iomap_replay.proofs.OneRead.{IsAt, answered-whole, is_answered-here}
-use Rattle.iomap_replay.proofs.Spans.{LiesAt, part_in-here}
+use Rattle.iomap_replay.proofs.Spans.{part_in-here}
 use Rattle.iomap_replay.specs.Facts.{IsShape, is_whole}
 use Rattle.iomap_replay.specs.Jobs.{script_of_job}
 use Rattle.iomap_replay.specs.OnePread.{one_call}
@@ -95,18 +93,18 @@ gives-here name job given b end block at reply journal many got =
     let opening = opening_content script 0 b in
     let cut : Span → Bool = λ part. bytes_eq (bytes_between (part.from - off) (part.to - off) end.got) (bytes_between (part.from - b * size) (part.to - b * size) opening) in
     let part : part_in size (answered_span script (one_call job.asked) end.answer.reply) b ≡ span off (off + n) =
-        ap (λ r. part_in size (answered_span script (one_call job.asked) r) b) reply
-        ∙ ap (λ s. part_in size s b) (answered-whole name job given b at) ∙ part_in-here size b off n at.lies in
+    ap (λ r. part_in size (answered_span script (one_call job.asked) r) b) reply
+    ∙ ap (λ s. part_in size s b) (answered-whole name job given b at) ∙ part_in-here size b off n at.lies in
     let equal : cut (span off (off + n)) ≡ true =
-        ap (λ bytes. bytes_eq bytes (bytes_between (off - b * size) (off + n - b * size) opening)) (between-all end.got off n many)
-        ∙ ap (λ bytes. bytes_eq end.got bytes) (between-place opening (b * size) off n at.lies.low ∙ sym got) ∙ bytes_eq-refl end.got in
+    ap (λ bytes. bytes_eq bytes (bytes_between (off - b * size) (off + n - b * size) opening)) (between-all end.got off n many)
+    ∙ ap (λ bytes. bytes_eq end.got bytes) (between-place opening (b * size) off n at.lies.low ∙ sym got) ∙ bytes_eq-refl end.got in
     let answered : is_answered script (one_call job.asked) end.answer.reply b ≡ true =
-        ap (λ r. is_answered script (one_call job.asked) r b) reply ∙ is_answered-here name job given b at in
+    ap (λ r. is_answered script (one_call job.asked) r b) reply ∙ is_answered-here name job given b at in
     ap (λ stamps. not (is_answered script (one_call job.asked) end.answer.reply b)
-        || bytes_eq (bytes_between ((part_in size (answered_span script (one_call job.asked) end.answer.reply) b).from - off)
-             ((part_in size (answered_span script (one_call job.asked) end.answer.reply) b).to - off) end.got)
-           (bytes_between ((part_in size (answered_span script (one_call job.asked) end.answer.reply) b).from - b * size)
-             ((part_in size (answered_span script (one_call job.asked) end.answer.reply) b).to - b * size) (replayed script 0 b (stamps_before 1 stamps)))) journal
+    || bytes_eq (bytes_between ((part_in size (answered_span script (one_call job.asked) end.answer.reply) b).from - off)
+    ((part_in size (answered_span script (one_call job.asked) end.answer.reply) b).to - off) end.got)
+    (bytes_between ((part_in size (answered_span script (one_call job.asked) end.answer.reply) b).from - b * size)
+    ((part_in size (answered_span script (one_call job.asked) end.answer.reply) b).to - b * size) (replayed script 0 b (stamps_before 1 stamps)))) journal
     ∙ ap (λ (t : Bool). not t || cut (part_in size (answered_span script (one_call job.asked) end.answer.reply) b)) answered
     ∙ ap cut part ∙ equal
 

@@ -1,9 +1,9 @@
 -- The blocks of a file with one mapped extent, as a range that was only read leaves them.
-use Rattle.std.proofs.Common.{◌≡◌, ℕ, zero, suc, ◌+◌, ◌-◌, ◌<◌, ◌≤◌, Bool, true, false, ◌&&◌, List, [], ◌∷◌, Some, None, Option, nat_eq, nat_le, nat_lt, if◌then◌else◌, map, drop, refl, sym, ap, ◌∙◌, arith, ◌⊎◌, inl, inr, subst, eq-eqb}
+use Rattle.std.proofs.Common.{◌≡◌, ℕ, zero, suc, ◌+◌, ◌-◌, ◌<◌, ◌≤◌, Bool, true, false, List, [], ◌∷◌, Some, None, nat_eq, nat_le, nat_lt, if◌then◌else◌, map, drop, refl, sym, ap, ◌∙◌, arith, ◌⊎◌, inl, inr, subst, eq-eqb}
 use Rattle.std.specs.Prelude.{max}
 use Rattle.std.specs.List.{cons_option}
 use Rattle.std.proofs.lemmas.Bool.{ltb-true, ltb-false, lt-ltb, leb-true, leb-false, le-leb, eqb-true}
-use Rattle.iob_base.specs.DeviceBlock.{DeviceBlock, device_block}
+use Rattle.iob_base.specs.DeviceBlock.{DeviceBlock}
 use Rattle.iob_base.specs.declared.stamp.Stamp.{Stamp}
 use Rattle.io_model.specs.Contents.{Content}
 use Rattle.io_model.specs.Kinds.{covers, kind_after, kind_at, mapped_number, device_number}
@@ -40,7 +40,7 @@ inside content e d b kind low high =
     let m = e.block + e.length - max (b + 1) e.block in
     let covered : covers e b ≡ true = rw (le-leb _ _ low, lt-ltb _ _ high) refl in
     let is : kind_at (e ∷ []) b ≡ Mapped (d + place) =
-        ap (λ (t : Bool). if t then kind_after e.kind place else Hole) covered ∙ ap (λ k. kind_after k place) kind in
+    ap (λ (t : Bool). if t then kind_after e.kind place else Hole) covered ∙ ap (λ k. kind_after k place) kind in
     let left : e.block + e.length - max b e.block ≡ suc m = omega (arith, low, high) in
     let next : d + (b + 1 - e.block) ≡ d + place + 1 = omega (arith, low) in
     let K : Kind → Type 0 = λ k. Steps content k (blocks_with content (d + place) (e.block + e.length - max b e.block)) (blocks_with content (d + (b + 1 - e.block)) m) in
@@ -60,6 +60,7 @@ outside content e d b out side =
   where
     two_counts : (p q m n : ℕ) → p ≡ q → m ≡ n → blocks_with content p m ≡ blocks_with content q n
     two_counts p q m n pq mn = ap (λ k. blocks_with content k m) pq ∙ ap (blocks_with content q) mn
+
     before_or_after : (b < e.block) ⊎ (e.block + e.length ≤ b)
         → rest_at content d e.block (e.block + e.length) b ≡ rest_at content d e.block (e.block + e.length) (b + 1)
     before_or_after (inl below) = two_counts _ _ _ _ (omega (arith, below)) (omega (arith, below))
@@ -76,6 +77,7 @@ steps content e d b kind = by_low (nat_le e.block b) refl
         → Steps content (kind_at (e ∷ []) b) (rest_at content d e.block (e.block + e.length) b) (rest_at content d e.block (e.block + e.length) (b + 1))
     by_high true is low = inside content e d b kind low (ltb-true b (e.block + e.length) is)
     by_high false is low = outside content e d b (rw (le-leb _ _ low, is) refl) (inr (ltb-false b (e.block + e.length) is))
+
     by_low : (t : Bool) → nat_le e.block b ≡ t
         → Steps content (kind_at (e ∷ []) b) (rest_at content d e.block (e.block + e.length) b) (rest_at content d e.block (e.block + e.length) (b + 1))
     by_low true is = by_high (nat_lt b (e.block + e.length)) refl (leb-true e.block b is)
@@ -85,12 +87,12 @@ steps content e d b kind = by_low (nat_le e.block b) refl
 ends-from : (content : ℕ → Content) (e : Extent) (d read : ℕ) (stamps : List Stamp) (log : List (ℕ × Stamp)) → e.kind ≡ Mapped d
     → ((b : ℕ) → stamps_at b log ≡ (if nat_eq b read then stamps else [])) → (b n : ℕ)
     → journaled b log (map bare_end (cells_of (kinds_from (e ∷ []) b n) (rest_at content d e.block (e.block + e.length) b)))
-      ≡ tabulated (read_end content (λ i. mapped_number (kind_at (e ∷ []) i)) read stamps) b n
+    ≡ tabulated (read_end content (λ i. mapped_number (kind_at (e ∷ []) i)) read stamps) b n
 ends-from content e d read stamps log kind logged b zero = refl
 ends-from content e d read stamps log kind logged b (suc n) =
     let here = steps content e d b kind in
     rw (here.cell, logged b, here.rest) (ap (λ ends. read_end content (λ i. mapped_number (kind_at (e ∷ []) i)) read stamps b ∷ ends)
-      (ends-from content e d read stamps log kind logged (b + 1) n))
+    (ends-from content e d read stamps log kind logged (b + 1) n))
 
 -- at the first block all sectors are left
 pub start_rest : (content : ℕ → Content) (e : Extent) (d : ℕ) → rest_at content d e.block (e.block + e.length) 0 ≡ blocks_with content d e.length
@@ -103,7 +105,7 @@ start_rest content e d =
 pub ends-are : (content : ℕ → Content) (e : Extent) (d blocks read : ℕ) (stamps : List Stamp) (log : List (ℕ × Stamp)) → e.kind ≡ Mapped d
     → ((b : ℕ) → stamps_at b log ≡ (if nat_eq b read then stamps else []))
     → journaled 0 log (map bare_end (cells_of (kinds_from (e ∷ []) 0 blocks) (blocks_with content d e.length)))
-      ≡ tabulated (read_end content (λ i. mapped_number (kind_at (e ∷ []) i)) read stamps) 0 blocks
+    ≡ tabulated (read_end content (λ i. mapped_number (kind_at (e ∷ []) i)) read stamps) 0 blocks
 ends-are content e d blocks read stamps log kind logged =
     ap (λ sectors. journaled 0 log (map bare_end (cells_of (kinds_from (e ∷ []) 0 blocks) sectors))) (sym (start_rest content e d))
     ∙ ends-from content e d read stamps log kind logged 0 blocks
@@ -111,7 +113,7 @@ ends-are content e d blocks read stamps log kind logged =
 -- the blocks from one on, with the sectors that are left there
 pub cells-dropped : (content : ℕ → Content) (e : Extent) (d : ℕ) → e.kind ≡ Mapped d → (k b n : ℕ)
     → drop k (cells_of (kinds_from (e ∷ []) b n) (rest_at content d e.block (e.block + e.length) b))
-      ≡ cells_of (kinds_from (e ∷ []) (b + k) (n - k)) (rest_at content d e.block (e.block + e.length) (b + k))
+    ≡ cells_of (kinds_from (e ∷ []) (b + k) (n - k)) (rest_at content d e.block (e.block + e.length) (b + k))
 cells-dropped content e d kind zero b n =
     let cells : ℕ → ℕ → List Cell = λ c m. cells_of (kinds_from (e ∷ []) c m) (rest_at content d e.block (e.block + e.length) c) in
     let many : n ≡ n - 0 = omega arith in

@@ -1,23 +1,23 @@
 -- The one range: that it can be opened, and what can be read of it at once.
-use Rattle.std.proofs.Common.{◌≡◌, ℕ, zero, suc, ◌+◌, ◌-◌, ◌<◌, ◌≤◌, List, [], ◌∷◌, Some, None, Option, length, map, take, drop, replicate, refl, sym, ap, ◌∙◌, arith, subst, lit≤}
-use Rattle.std.specs.Prelude.{max, IsTrue, All, IfSome, is_some, ◌^◌}
-use Rattle.std.specs.List.{filter_map, cons_option, AllByRecursion, list_all}
+use Rattle.std.proofs.Common.{◌≡◌, ℕ, zero, suc, ◌+◌, ◌-◌, ◌≤◌, List, [], ◌∷◌, length, map, take, drop, replicate, sym, ap, ◌∙◌, arith, subst, lit≤}
+use Rattle.std.specs.Prelude.{max, All, IfSome, is_some, ◌^◌}
+use Rattle.std.specs.List.{cons_option, AllByRecursion}
 use Rattle.std.proofs.lemmas.List.Elements.{All-from_recursion}
-use Rattle.iob_base.specs.DeviceBlock.{DeviceBlock, device_block}
+use Rattle.iob_base.specs.DeviceBlock.{DeviceBlock}
 use Rattle.io_model.specs.Contents.{Content, device_bytes}
-use Rattle.io_model.specs.Kinds.{covers, kind_after, kind_at, mapped_number, device_number}
+use Rattle.io_model.specs.Kinds.{kind_at, device_number}
 use Rattle.io_model.specs.declared.file.Extent.{Extent}
 use Rattle.io_model.specs.declared.file.Kind.{Kind}
-use Rattle.io_model.specs.declared.file.Kind.TheVariants.{Hole, Mapped}
+use Rattle.io_model.specs.declared.file.Kind.TheVariants.{Mapped}
 use Rattle.io_model.specs.declared.script.Script.{Script}
 use Rattle.iomap_replay.proofs.Devices.{drop-blocks_with, take-blocks_with}
 use Rattle.iomap_replay.proofs.OneContents.{length-device_bytes}
-use Rattle.iomap_replay.proofs.OneFile.{rest_at, Steps, steps, start_rest}
+use Rattle.iomap_replay.proofs.OneFile.{rest_at, steps, start_rest}
 use Rattle.iomap_replay.specs.Devices.{blocks_with, content_given, first_number}
-use Rattle.iomap_replay.specs.Facts.{IsShape, LiesOn}
-use Rattle.iomap_replay.specs.Jobs.{IsJobOf, script_of_job}
+use Rattle.iomap_replay.specs.Facts.{LiesOn}
+use Rattle.iomap_replay.specs.Jobs.{IsJobOf}
 use Rattle.iomap_replay.specs.declared.script.Job.{Job}
-use Rattle.range_core.specs.Kinds.{HasNumbers, kinds_from, numbers_of}
+use Rattle.range_core.specs.Kinds.{kinds_from, numbers_of}
 use Rattle.range_core.specs.Opening.{CanOpen, LiesIn}
 
 -- the device as it was made is the device of the script
@@ -25,7 +25,7 @@ pub device_is : (script : Script) (job : Job) (n : ℕ) → IsJobOf script job
     → blocks_with (content_given script.blocks (replicate job.device.block_size job.device.fill)) 0 n ≡ blocks_with (device_bytes script) 0 n
 device_is script job n of =
     let others : replicate script.geometry.block_size script.fill ≡ replicate job.device.block_size job.device.fill =
-        ap (λ (s : Script). replicate s.geometry.block_size s.fill) of.is ∙ ap (λ size. replicate size job.device.fill) of.shape.size in
+    ap (λ (s : Script). replicate s.geometry.block_size s.fill) of.is ∙ ap (λ size. replicate size job.device.fill) of.shape.size in
     ap (λ bytes. blocks_with (content_given script.blocks bytes) 0 n) (sym others)
 
 -- the blocks of the extent are cut out of the device
@@ -75,14 +75,14 @@ can_open script job own of is =
     let content : ℕ → Content = device_bytes script in
     let own_are : own ≡ blocks_with content d job.extent.length = is ∙ ap (λ n. blocks_with content n job.extent.length) (first_is job.extent d kind) in
     let whole : (i : ℕ) → length (content i) ≡ size =
-        λ i. ap (λ (s : Script). length (device_bytes s i)) of.is ∙ length-device_bytes of.name job script.blocks i of.shape of.whole in
+    λ i. ap (λ (s : Script). length (device_bytes s i)) of.is ∙ length-device_bytes of.name job script.blocks i of.shape of.whole in
     let W : List DeviceBlock → Type 0 = λ all. All (λ (s : DeviceBlock). length s.bytes ≡ size) all in
     record {
       some = omega (arith, of.shape.tail.some);
       few = omega (arith, of.shape.tail.few);
       inside = All-from_recursion (LiesIn 0 job.blocks) (job.extent ∷ []) (lies_in job.extent d job.blocks job.device.blocks kind on of.shape.device.few on.mapped.2, tt);
       sectors_are = ap (map (λ (s : DeviceBlock). s.number)) (own_are ∙ sym (start_rest content job.extent d))
-        ∙ numbers-from content job.extent d kind 0 job.blocks (omega (arith, on.inside));
+          ∙ numbers-from content job.extent d kind 0 job.blocks (omega (arith, on.inside));
       whole = subst W (sym own_are) (All-from_recursion (λ (s : DeviceBlock). length s.bytes ≡ size) _ (all_whole content size d job.extent.length whole));
       unworn = lit≤ tt;
     }

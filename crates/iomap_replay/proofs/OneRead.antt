@@ -1,10 +1,9 @@
 -- One read of one block, against the definitions of a right run, block by block.
-use Rattle.std.proofs.Common.{◌≡◌, ℕ, ◌+◌, ◌-◌, ◌*◌, ◌/◌, ◌%◌, ◌<◌, ◌≤◌, Bool, true, false, not, ◌&&◌, List, [], ◌∷◌, Some, None, Option, nat_eq, if◌then◌else◌, length, take, drop, refl, sym, ap, ◌∙◌, arith}
+use Rattle.std.proofs.Common.{◌≡◌, ℕ, ◌+◌, ◌*◌, ◌/◌, ◌%◌, ◌<◌, ◌≤◌, Bool, true, false, not, ◌&&◌, List, [], ◌∷◌, nat_eq, if◌then◌else◌, refl, ap, ◌∙◌, arith}
 use Rattle.std.specs.Prelude.{min, max}
 use Rattle.std.proofs.Math.Nat.{mul-le-mul_right, div-add-mod, mul_comm}
 use Rattle.std.proofs.lemmas.Bool.{le-ltb}
 use Rattle.iob_base.specs.declared.answer.Fault.{Fault}
-use Rattle.iob_base.specs.declared.answer.Reply.{Reply}
 use Rattle.iob_base.specs.declared.answer.Reply.TheVariants.{Ok, Err}
 use Rattle.iob_base.specs.declared.answer.Stop.TheVariants.{Whole}
 use Rattle.iob_base.specs.declared.stamp.Stamp.{Stamp}
@@ -12,8 +11,6 @@ use Rattle.io_model.specs.Answered.{answered_span, is_answered}
 use Rattle.io_model.specs.Journals.{are_named_once, are_answered}
 use Rattle.io_model.specs.Parts.{Span, span, range_of, meets, touches}
 use Rattle.io_model.specs.declared.run.CallEnd.{CallEnd}
-use Rattle.io_model.specs.declared.script.Call.{Call}
-use Rattle.io_model.specs.declared.script.Script.{Script}
 use Rattle.iomap_replay.proofs.Spans.{LiesAt, meets-here, meets-elsewhere}
 use Rattle.iomap_replay.specs.Facts.{IsShape}
 use Rattle.iomap_replay.specs.Jobs.{script_of_job}

@@ -1,5 +1,5 @@
 -- From the outcome of the one read, and what its range left, to a right run.
-use Rattle.std.proofs.Common.{◌≡◌, ℕ, zero, suc, ◌+◌, ◌-◌, ◌<◌, ◌≤◌, Bool, true, false, List, [], ◌∷◌, length, map, nat_eq, if◌then◌else◌, refl, sym, ap, ◌∙◌, arith, subst}
+use Rattle.std.proofs.Common.{◌≡◌, ℕ, zero, suc, ◌+◌, ◌<◌, Bool, true, false, List, [], ◌∷◌, length, map, nat_eq, if◌then◌else◌, sym, ap, ◌∙◌, arith, subst}
 use Rattle.std.specs.Prelude.{IsTrue}
 use Rattle.std.specs.Bool.{MatchBool}
 use Rattle.iob_base.specs.DeviceBlock.{DeviceBlock}
@@ -11,7 +11,6 @@ use Rattle.io_model.specs.Right.{RunIsRight}
 use Rattle.io_model.specs.RunText.{is_error}
 use Rattle.io_model.specs.declared.file.Extent.{Extent}
 use Rattle.io_model.specs.declared.file.FileEnd.{FileEnd}
-use Rattle.io_model.specs.declared.file.Kind.{Kind}
 use Rattle.io_model.specs.declared.file.Kind.TheVariants.{Mapped}
 use Rattle.io_model.specs.declared.run.CallEnd.{CallEnd}
 use Rattle.io_model.specs.declared.run.LaneEnd.{LaneEnd}
@@ -25,8 +24,8 @@ use Rattle.iomap_replay.specs.Jobs.{IsJobOf, script_of_job}
 use Rattle.iomap_replay.specs.OneRead.{block_of, opened_range, GaveRange, GaveNothing, IsOutcome}
 use Rattle.iomap_replay.specs.Runs.{read_stamp, one_run}
 use Rattle.iomap_replay.specs.declared.script.Job.{Job}
-use Rattle.range_core.specs.Cells.{cells_of, sectors_after}
-use Rattle.range_core.specs.Events.{with_stamps}
+use Rattle.range_core.proofs.CellLemmas.{length-cells_of, length-kinds_from, kinds-cells_of}
+use Rattle.range_core.specs.Cells.{cells_of}
 use Rattle.range_core.specs.Kinds.{kinds_from}
 use Rattle.range_core.specs.RangeView.{RangeView}
 use Rattle.range_core.specs.Stamps.{bare_end, journaled, stamps_at}
@@ -37,18 +36,6 @@ pub record IsEndOf (file : FileEnd) (r : RangeView) : Type 0 where
   pub merged : IsTrue (is_merged_from r.first (r.first + length r.cells) file.extents)
   pub kinds : kinds_from file.extents r.first (length r.cells) ≡ map (λ (c : Cell). c.kind) r.cells
   pub blocks : file.blocks ≡ journaled r.first r.log (map bare_end r.cells)
-
-kinds_of_cells : (kinds : List Kind) (sectors : List DeviceBlock) → map (λ (c : Cell). c.kind) (cells_of kinds sectors) ≡ kinds
-kinds_of_cells [] sectors = refl
-kinds_of_cells (k ∷ ks) sectors = ap (λ rest. k ∷ rest) (kinds_of_cells ks (sectors_after k sectors))
-
-length-cells : (kinds : List Kind) (sectors : List DeviceBlock) → length (cells_of kinds sectors) ≡ length kinds
-length-cells [] sectors = refl
-length-cells (k ∷ ks) sectors = ap suc (length-cells ks (sectors_after k sectors))
-
-length-kinds : (extents : List Extent) (b n : ℕ) → length (kinds_from extents b n) ≡ n
-length-kinds extents b zero = refl
-length-kinds extents b (suc n) = ap suc (length-kinds extents (b + 1) n)
 
 -- equal lists of kinds have equal kinds at each block
 kind_of_each : (xs ys : List Extent) (b n k : ℕ) → kinds_from xs b n ≡ kinds_from ys b n → k < n → kind_at xs (b + k) ≡ kind_at ys (b + k)
@@ -73,16 +60,16 @@ read_file script job d stamps log file kind logged end =
     let e = job.extent in
     let kinds = kinds_from (e ∷ []) 0 job.blocks in
     let sectors = blocks_with content (first_number e.kind) e.length in
-    let many : length (cells_of kinds sectors) ≡ job.blocks = length-cells kinds sectors ∙ length-kinds (e ∷ []) 0 job.blocks in
-    let all : kinds_from file.extents 0 job.blocks ≡ kinds = sym (ap (kinds_from file.extents 0) many) ∙ end.kinds ∙ kinds_of_cells kinds sectors in
+    let many : length (cells_of kinds sectors) ≡ job.blocks = length-cells_of kinds sectors ∙ length-kinds_from (e ∷ []) 0 job.blocks in
+    let all : kinds_from file.extents 0 job.blocks ≡ kinds = sym (ap (kinds_from file.extents 0) many) ∙ end.kinds ∙ kinds-cells_of kinds sectors in
     record {
       blocks = end.blocks ∙ ap (λ n. journaled 0 log (map bare_end (cells_of kinds (blocks_with content n e.length)))) (first_is e d kind)
-        ∙ ends-are content e d job.blocks (block_of job) stamps log kind logged;
+          ∙ ends-are content e d job.blocks (block_of job) stamps log kind logged;
       merged = (let P : ℕ → Type 0 = λ n. IsTrue (is_merged_from 0 n file.extents) in
-        let end_is : 0 + length (cells_of kinds sectors) ≡ job.blocks = omega (arith, many) in subst P end_is end.merged);
+          let end_is : 0 + length (cells_of kinds sectors) ≡ job.blocks = omega (arith, many) in subst P end_is end.merged);
       kinds = λ i within.
-        let P : ℕ → Type 0 = λ c. kind_at file.extents c ≡ kind_at (e ∷ []) c in
-        let place : 0 + i ≡ i = omega arith in subst P place (kind_of_each file.extents (e ∷ []) 0 job.blocks i all within);
+          let P : ℕ → Type 0 = λ c. kind_at file.extents c ≡ kind_at (e ∷ []) c in
+          let place : 0 + i ≡ i = omega arith in subst P place (kind_of_each file.extents (e ∷ []) 0 job.blocks i all within);
     }
 
 -- a run whose script is spelled out
@@ -92,21 +79,21 @@ right_spelled : (script : Script) (job : Job) (end : CallEnd) (file : FileEnd) (
 right_spelled script job end file free lanes new of outcome file_end many = by_reply (is_error end.answer.reply) outcome
   where
     by_reply : (t : Bool) → MatchBool t (GaveNothing end (opened_range (script_of_job of.name job script.blocks) job) new)
-          (GaveRange (script_of_job of.name job script.blocks) job end (opened_range (script_of_job of.name job script.blocks) job) new)
+        (GaveRange (script_of_job of.name job script.blocks) job end (opened_range (script_of_job of.name job script.blocks) job) new)
         → RunIsRight (script_of_job of.name job script.blocks) (0 ∷ []) (one_run end file free lanes)
     by_reply true nothing =
         let on = of.shape.tail.extent in
         let s = script_of_job of.name job script.blocks in
         let read = read_file s job on.mapped.0 [] [] file on.mapped.1 (stamps_at-none (block_of job)) (subst (IsEndOf file) nothing.left file_end) in
         right_run of.name job script.blocks on.mapped.0 (block_of job) [] file end free lanes of.shape of.whole on.mapped.1 read
-          (failed_read of.name job script.blocks (block_of job) file end nothing.fault read nothing.reply nothing.waited nothing.pages nothing.got) many
+        (failed_read of.name job script.blocks (block_of job) file end nothing.fault read nothing.reply nothing.waited nothing.pages nothing.got) many
     by_reply false whole =
         let on = of.shape.tail.extent in
         let s = script_of_job of.name job script.blocks in
         let b = block_of job in
         let read = read_file s job on.mapped.0 (read_stamp ∷ []) ((b, read_stamp) ∷ []) file on.mapped.1 (stamps_at-one b read_stamp) (subst (IsEndOf file) whole.left file_end) in
         right_run of.name job script.blocks on.mapped.0 b (read_stamp ∷ []) file end free lanes of.shape of.whole on.mapped.1 read
-          (whole_read of.name job script.blocks b file end (is_at job of.shape) read whole.reply whole.pages whole.many whole.got) many
+        (whole_read of.name job script.blocks b file end (is_at job of.shape) read whole.reply whole.pages whole.many whole.got) many
 
 pub right_from_outcome : (script : Script) (job : Job) (end : CallEnd) (file : FileEnd) (free : List DeviceBlock) (lanes : List LaneEnd) (new : RangeView) (of : IsJobOf script job)
     → IsOutcome script job end (opened_range script job) new → IsEndOf file new → length lanes ≡ 17 → RunIsRight script (0 ∷ []) (one_run end file free lanes)

@@ -1,5 +1,5 @@
 -- A run of one read is right: what is true block by block, joined.
-use Rattle.std.proofs.Common.{◌≡◌, ℕ, ◌+◌, ◌*◌, ◌<◌, ◌≤◌, Bool, true, false, not, ◌&&◌, ◌||◌, ◌==◌, List, [], ◌∷◌, Some, None, Option, nat_eq, if◌then◌else◌, is_some, length, take, drop, ◌-◌, refl, sym, ap, ◌∙◌, arith, eq-eqb, subst}
+use Rattle.std.proofs.Common.{◌≡◌, ℕ, ◌*◌, ◌<◌, Bool, true, false, not, ◌&&◌, List, [], ◌∷◌, Option, nat_eq, if◌then◌else◌, is_some, length, take, drop, ◌-◌, refl, sym, ap, ◌∙◌, arith, eq-eqb, subst}
 use Rattle.std.specs.Prelude.{IsTrue}
 use Rattle.std.specs.List.{list_all}
 use Rattle.std.specs.Str.{bytes_eq}
@@ -9,7 +9,7 @@ use Rattle.iob_base.specs.declared.answer.Fault.{Fault}
 use Rattle.iob_base.specs.declared.answer.Reply.TheVariants.{Ok, Err}
 use Rattle.iob_base.specs.declared.answer.Stop.TheVariants.{Whole}
 use Rattle.iob_base.specs.declared.stamp.Stamp.{Stamp}
-use Rattle.io_model.specs.Contents.{Content, device_bytes, mapped_or_zeros, opening_content}
+use Rattle.io_model.specs.Contents.{Content, device_bytes, opening_content}
 use Rattle.io_model.specs.Effects.{replayed}
 use Rattle.io_model.specs.Finals.{IsFinalContent, final_content, device_content}
 use Rattle.io_model.specs.Fitting.{Fits, is_merged_from, is_block_end, is_file_end, is_again, is_again_reply, has_size}
@@ -71,7 +71,7 @@ journals : (test : ℕ → ℕ → List Stamp → Bool) (script : Script) (job :
     → each_block (λ f b block. test f b block.journal) (file ∷ []) ≡ true
 journals test script job read stamps file is here elsewhere =
     each_block-one (λ f b block. test f b block.journal) file (read_end (device_bytes script) (mapped_in job) read stamps) job.blocks is.blocks
-      (λ i within. by_block (nat_eq i read) stamps (test 0 i) (λ t. ap (λ k. test 0 k stamps) (eqb-true i read t) ∙ here) (elsewhere i))
+    (λ i within. by_block (nat_eq i read) stamps (test 0 i) (λ t. ap (λ k. test 0 k stamps) (eqb-true i read t) ∙ here) (elsewhere i))
 
 lawful : (script : Script) (job : Job) (read : ℕ) (stamps : List Stamp) (file : FileEnd) (end : CallEnd) (free : List DeviceBlock) (lanes : List LaneEnd)
     → IsReadFile script job read stamps file → IsReadCall script job read stamps file end → IsLawfulJournal script (0 ∷ []) (one_run end file free lanes)
@@ -92,16 +92,16 @@ contents name job given read stamps file end free lanes is call =
     let size = job.geometry.block_size in
     let content : ℕ → Content = device_bytes script in
     let test : ℕ → ℕ → BlockEnd → Bool = λ f b block.
-        bytes_eq (final_content size (mapped_number (kind_at file.extents b)) block.sector block.dirty) (replayed script f b block.journal) in
+    bytes_eq (final_content size (mapped_number (kind_at file.extents b)) block.sector block.dirty) (replayed script f b block.journal) in
     each_block-one test file (read_end content (mapped_in job) read stamps) job.blocks is.blocks
-      (λ i within.
-        let opening : device_content size (mapped_number (kind_at file.extents i)) (sector_with content (mapped_in job i)) ≡ opening_content script 0 i =
-            ap (λ k. device_content size (mapped_number k) (sector_with content (mapped_in job i))) (is.kinds i within) ∙ device_content-opening script (mapped_in job i) in
-        by_block (nat_eq i read) stamps
-          (λ sts. bytes_eq (device_content size (mapped_number (kind_at file.extents i)) (sector_with content (mapped_in job i))) (replayed script 0 i sts))
-          (λ _. ap (λ bytes. bytes_eq bytes (replayed script 0 i stamps)) opening
-            ∙ ap (λ bytes. bytes_eq (opening_content script 0 i) bytes) (call.silent i) ∙ bytes_eq-refl (opening_content script 0 i))
-          (λ _. ap (λ bytes. bytes_eq bytes (opening_content script 0 i)) opening ∙ bytes_eq-refl (opening_content script 0 i)))
+    (λ i within.
+    let opening : device_content size (mapped_number (kind_at file.extents i)) (sector_with content (mapped_in job i)) ≡ opening_content script 0 i =
+    ap (λ k. device_content size (mapped_number k) (sector_with content (mapped_in job i))) (is.kinds i within) ∙ device_content-opening script (mapped_in job i) in
+    by_block (nat_eq i read) stamps
+    (λ sts. bytes_eq (device_content size (mapped_number (kind_at file.extents i)) (sector_with content (mapped_in job i))) (replayed script 0 i sts))
+    (λ _. ap (λ bytes. bytes_eq bytes (replayed script 0 i stamps)) opening
+    ∙ ap (λ bytes. bytes_eq (opening_content script 0 i) bytes) (call.silent i) ∙ bytes_eq-refl (opening_content script 0 i))
+    (λ _. ap (λ bytes. bytes_eq bytes (opening_content script 0 i)) opening ∙ bytes_eq-refl (opening_content script 0 i)))
 
 -- the file fits: each block has a whole sector exactly where it is mapped
 file_fits : (name : Word) (job : Job) (given : List (ℕ × List ℕ)) (d read : ℕ) (stamps : List Stamp) (file : FileEnd)
@@ -115,14 +115,14 @@ file_fits name job given d read stamps file shape whole kind is =
     let f = read_end content (mapped_in job) read stamps in
     let many : nat_eq (length file.blocks) job.blocks ≡ true = eq-eqb _ _ (ap length is.blocks ∙ length-tabulated f 0 job.blocks) in
     let each : each_from (is_block_end size file.extents) 0 file.blocks ≡ true =
-        ap (each_from (is_block_end size file.extents) 0) is.blocks
-        ∙ each_from-tabulated (is_block_end size file.extents) f 0 job.blocks (λ i low high.
-            let within : i < job.blocks = omega arith in
-            let placed : same (is_some (sector_with content (mapped_in job i))) (is_some (device_number (kind_at file.extents i))) ≡ true =
-                ap (λ k. same (is_some (sector_with content (mapped_in job i))) (is_some (device_number k))) (is.kinds i within) ∙ sector_fits content job.extent d i kind in
-            let sized : has_size size (sector_with content (mapped_in job i)) ≡ true =
-                sector_whole content size (mapped_in job i) (λ n. length-device_bytes name job given n shape whole) in
-            ap (λ (t : Bool). t && (has_size size (sector_with content (mapped_in job i)) && true)) placed ∙ ap (λ (t : Bool). t && true) sized) in
+    ap (each_from (is_block_end size file.extents) 0) is.blocks
+    ∙ each_from-tabulated (is_block_end size file.extents) f 0 job.blocks (λ i low high.
+    let within : i < job.blocks = omega arith in
+    let placed : same (is_some (sector_with content (mapped_in job i))) (is_some (device_number (kind_at file.extents i))) ≡ true =
+    ap (λ k. same (is_some (sector_with content (mapped_in job i))) (is_some (device_number k))) (is.kinds i within) ∙ sector_fits content job.extent d i kind in
+    let sized : has_size size (sector_with content (mapped_in job i)) ≡ true =
+    sector_whole content size (mapped_in job i) (λ n. length-device_bytes name job given n shape whole) in
+    ap (λ (t : Bool). t && (has_size size (sector_with content (mapped_in job i)) && true)) placed ∙ ap (λ (t : Bool). t && true) sized) in
     ap (λ (t : Bool). t && (is_merged_from 0 job.blocks file.extents && each_from (is_block_end size file.extents) 0 file.blocks)) many
     ∙ ap (λ (t : Bool). t && each_from (is_block_end size file.extents) 0 file.blocks) is.merged ∙ each
 
@@ -162,8 +162,8 @@ whole_read name job given b file end at is reply pages many got =
     let script = script_of_job name job given in
     let f = read_end (device_bytes script) (mapped_in job) b (read_stamp ∷ []) in
     let each : each_from (gives_block script 1 (one_call job.asked) end) 0 file.blocks ≡ true =
-        ap (each_from (gives_block script 1 (one_call job.asked) end) 0) is.blocks
-        ∙ each_from-tabulated (gives_block script 1 (one_call job.asked) end) f 0 job.blocks (λ i low high. gives i (nat_eq i b) refl) in
+    ap (each_from (gives_block script 1 (one_call job.asked) end) 0) is.blocks
+    ∙ each_from-tabulated (gives_block script 1 (one_call job.asked) end) f 0 job.blocks (λ i low high. gives i (nat_eq i b) refl) in
     record {
       named = named-here name job given b at;
       here = answered-here name job given b end at reply;
@@ -173,13 +173,14 @@ whole_read name job given b file end at is reply pages many got =
       marked = refl;
       silent = λ i. refl;
       reply = ap (λ r. has_count r (length end.got) && each_from (gives_block script 1 (one_call job.asked) end) 0 file.blocks) reply
-        ∙ ap (λ (t : Bool). t && each_from (gives_block script 1 (one_call job.asked) end) 0 file.blocks) (eq-eqb _ _ (sym many)) ∙ each;
+          ∙ ap (λ (t : Bool). t && each_from (gives_block script 1 (one_call job.asked) end) 0 file.blocks) (eq-eqb _ _ (sym many)) ∙ each;
       waited = ap is_again_reply reply;
       pages = pages;
     }
   where
     gives_in : ℕ → Type 0
     gives_in k = gives_block (script_of_job name job given) 1 (one_call job.asked) end k (read_end (device_bytes (script_of_job name job given)) (mapped_in job) b (read_stamp ∷ []) k) ≡ true
+
     gives : (i : ℕ) (t : Bool) → nat_eq i b ≡ t → gives_in i
     gives i true here =
         let stamped : (if nat_eq b b then read_stamp ∷ [] else []) ≡ read_stamp ∷ [] = ap (λ (t : Bool). if t then read_stamp ∷ [] else []) (eq-eqb b b refl) in
@@ -187,7 +188,7 @@ whole_read name job given b file end at is reply pages many got =
         subst gives_in (sym (eqb-true i b here)) there
     gives i false other =
         gives-elsewhere name job given i end (read_end (device_bytes (script_of_job name job given)) (mapped_in job) b (read_stamp ∷ []) i)
-          (ap (λ r. is_answered (script_of_job name job given) (one_call job.asked) r i) reply ∙ is_answered-elsewhere name job given b i at other)
+        (ap (λ r. is_answered (script_of_job name job given) (one_call job.asked) r i) reply ∙ is_answered-elsewhere name job given b i at other)
 
 -- the end of a read that failed and gave nothing
 pub failed_read : (name : Word) (job : Job) (given : List (ℕ × List ℕ)) (b : ℕ) (file : FileEnd) (end : CallEnd) (fault : Fault)
@@ -197,10 +198,10 @@ failed_read name job given b file end fault is reply waited pages got =
     let script = script_of_job name job given in
     let f = read_end (device_bytes script) (mapped_in job) b [] in
     let nowhere : (i : ℕ) → is_answered script (one_call job.asked) end.answer.reply i ≡ false =
-        λ i. ap (λ r. is_answered script (one_call job.asked) r i) reply ∙ is_answered-failed name job given fault i in
+    λ i. ap (λ r. is_answered script (one_call job.asked) r i) reply ∙ is_answered-failed name job given fault i in
     let each : each_from (gives_block script 1 (one_call job.asked) end) 0 file.blocks ≡ true =
-        ap (each_from (gives_block script 1 (one_call job.asked) end) 0) is.blocks
-        ∙ each_from-tabulated (gives_block script 1 (one_call job.asked) end) f 0 job.blocks (λ i low high. gives-elsewhere name job given i end (f i) (nowhere i)) in
+    ap (each_from (gives_block script 1 (one_call job.asked) end) 0) is.blocks
+    ∙ each_from-tabulated (gives_block script 1 (one_call job.asked) end) f 0 job.blocks (λ i low high. gives-elsewhere name job given i end (f i) (nowhere i)) in
     record {
       named = refl;
       here = answered-elsewhere name job given b end (nowhere b);
@@ -210,7 +211,7 @@ failed_read name job given b file end fault is reply waited pages got =
       marked = refl;
       silent = λ i. refl;
       reply = ap (λ r. has_count r (length end.got) && each_from (gives_block script 1 (one_call job.asked) end) 0 file.blocks) reply
-        ∙ ap (λ bytes. nat_eq (length bytes) 0 && each_from (gives_block script 1 (one_call job.asked) end) 0 file.blocks) got ∙ each;
+          ∙ ap (λ bytes. nat_eq (length bytes) 0 && each_from (gives_block script 1 (one_call job.asked) end) 0 file.blocks) got ∙ each;
       waited = ap is_again_reply reply ∙ waited;
       pages = pages;
     }

@@ -1,9 +1,9 @@
 -- The part of a range in the one block that it lies in, and in every other block.
-use Rattle.std.proofs.Common.{◌≡◌, ℕ, ◌+◌, ◌-◌, ◌*◌, ◌<◌, ◌≤◌, Bool, true, false, nat_eq, nat_lt, arith, refl, ◌⊎◌, inl, inr}
+use Rattle.std.proofs.Common.{◌≡◌, ℕ, ◌+◌, ◌*◌, ◌<◌, ◌≤◌, Bool, true, false, nat_eq, nat_lt, arith, refl, ◌⊎◌, inl, inr}
 use Rattle.std.proofs.Math.Nat.{mul-le-mul_right}
 use Rattle.std.proofs.lemmas.Bool.{eqb-false, ltb-true, ltb-false, lt-ltb, le-ltb}
 use Rattle.std.specs.Prelude.{min, max}
-use Rattle.io_model.specs.Parts.{Span, span, part_in, meets}
+use Rattle.io_model.specs.Parts.{span, part_in, meets}
 
 -- a range of some bytes that lies in a block
 pub record LiesAt (size b from n : ℕ) : Type 0 where
@@ -33,8 +33,8 @@ blocks-apart size b c other = by_test (nat_lt c b) refl
 pub meets-elsewhere : (size b from n c : ℕ) → LiesAt size b from n → nat_eq c b ≡ false → meets size (span from (from + n)) c ≡ false
 meets-elsewhere size b from n c lies other =
     let none : min (from + n) ((c + 1) * size) ≤ max from (c * size) =
-        elim (blocks-apart size b c (eqb-false c b other)) [
-          inl below ↦ omega (arith, below, lies.low)
-        | inr above ↦ omega (arith, above, lies.high)
-        ] in
+    elim (blocks-apart size b c (eqb-false c b other)) [
+      | inl below ↦ omega (arith, below, lies.low)
+      | inr above ↦ omega (arith, above, lies.high)
+    ] in
     le-ltb _ _ none

@@ -1,5 +1,4 @@
-use Rattle.std.specs.Prelude.{◌≡◌, ℕ, ◌<◌, ◌≤◌, Option, Some, None, Result, List, [], ◌++◌, length, take, IfSome, MatchResult}
-use Rattle.iob_base.specs.Counts.{Rose}
+use Rattle.std.specs.Prelude.{◌≡◌, ℕ, ◌<◌, ◌≤◌, Option, Some, List, [], ◌++◌, length, take, IfSome}
 use Rattle.iomap_replay.specs.OnePread.{TEXT_LIMIT}
 
 -- what was read of these bytes: all of them, and nothing is left; or more than a script may have, as

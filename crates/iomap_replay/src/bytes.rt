@@ -27,7 +27,12 @@ fn hex_block(alloc: Global, n: u32, word: &[u8]) -> Result<Option<Items<u8>>, Al
 }
 
 /// One byte so many times. Want of memory is the only error.
-fn repeated_block(alloc: Global, n: u32, digits: &[u8], times: &[u8]) -> Result<Option<Items<u8>>, AllocError>
+fn repeated_block(
+    alloc: Global,
+    n: u32,
+    digits: &[u8],
+    times: &[u8],
+) -> Result<Option<Items<u8>>, AllocError>
     ensures value { IfOk result (λ bytes. bytes ≡ repeated n digits.now times.now) }
     ensures whole { IfOk result (λ bytes. IfSome bytes (λ b. length b ≡ n)) }
 {
@@ -56,7 +61,11 @@ fn block(alloc: Global, n: u32, word: &[u8]) -> Result<Option<Items<u8>>, AllocE
 }
 
 /// `data <device block> <segment>`, of a block of the device. Want of memory is the only error.
-pub fn data_line(alloc: Global, device: Device, line: &[u8]) -> Result<Option<(u32, Items<u8>)>, AllocError>
+pub fn data_line(
+    alloc: Global,
+    device: Device,
+    line: &[u8],
+) -> Result<Option<(u32, Items<u8>)>, AllocError>
     ensures value { IfOk result (λ given. given ≡ data_of device (words line.now)) }
     ensures whole { IfOk result (λ given. IfSome given (λ g. is_whole device g ≡ true)) }
 {
@@ -87,7 +96,12 @@ fn is_given(given: &[(u32, Items<u8>)], d: u32) -> bool
 
 /// Adds the block that a data line gives, where the line is of its form and the block is not given
 /// already. Want of memory is the only error.
-fn add_data(alloc: Global, device: Device, given: &mut Vec<(u32, Items<u8>)>, line: &[u8]) -> Result<bool, AllocError>
+fn add_data(
+    alloc: Global,
+    device: Device,
+    given: &mut Vec<(u32, Items<u8>)>,
+    line: &[u8],
+) -> Result<bool, AllocError>
     ensures value { IfOk result (λ added. more_data device (Some given.old.items) (words line.now) ≡ (if added then Some given.new.items else None)) }
     ensures whole { IfOk result (λ _. list_all (is_whole device) given.old.items ≡ true → list_all (is_whole device) given.new.items ≡ true) }
 {
@@ -104,7 +118,11 @@ fn add_data(alloc: Global, device: Device, given: &mut Vec<(u32, Items<u8>)>, li
 /// The blocks that data lines give, where each is of its form and no two are of one block. Want of
 /// memory is the only error.
 #[tactic(auto, using(crate::proofs::Shapes::data_fold_none))]
-pub fn data_list(alloc: Global, device: Device, lines: &[&[u8]]) -> Result<Option<Vec<(u32, Items<u8>)>>, AllocError>
+pub fn data_list(
+    alloc: Global,
+    device: Device,
+    lines: &[&[u8]],
+) -> Result<Option<Vec<(u32, Items<u8>)>>, AllocError>
     ensures value { IfOk result (λ given. option_map (λ v. v.items) given ≡ data_blocks device (map (λ line. words line.now) lines.now)) }
     ensures whole { IfOk result (λ given. IfSome given (λ v. list_all (is_whole device) v.items ≡ true)) }
 {

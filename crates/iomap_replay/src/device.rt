@@ -19,7 +19,12 @@ fn write_block(sector: &mut Sector, bytes: &[u8])
 
 /// The blocks of a device, each with the bytes that a data line gives for it, or else filled. Want of
 /// memory is the only error.
-pub fn device_blocks(alloc: Global, geometry: &Geometry, device: Device, given: &[(u32, Items<u8>)]) -> Result<Vec<Sector>, AllocError>
+pub fn device_blocks(
+    alloc: Global,
+    geometry: &Geometry,
+    device: Device,
+    given: &[(u32, Items<u8>)],
+) -> Result<Vec<Sector>, AllocError>
     requires size { geometry.now.block_size ≡ device.block_size }
     requires whole { list_all (is_whole device) given.now ≡ true }
     ensures { IfOk result (λ all. all.items ≡ blocks_with (content_given given.now (replicate device.block_size device.fill)) 0 device.blocks) }

@@ -32,7 +32,12 @@ fn idle_lanes(alloc: Global, fates: Vec<Box<dyn Fate + Send>>) -> Result<Vec<Lan
 
 /// Runs a script of the one form over these fates: the first is that of lane 0. Want of memory outside
 /// the call's reply is the only error.
-pub fn play(alloc: Global, script: &Script, job: &Job, fates: Vec<Box<dyn Fate + Send>>) -> Result<Run, AllocError>
+pub fn play(
+    alloc: Global,
+    script: &Script,
+    job: &Job,
+    fates: Vec<Box<dyn Fate + Send>>,
+) -> Result<Run, AllocError>
     requires job { IsJobOf script.now job.now }
     requires seventeen { length fates.items ≡ 17 }
     ensures right { IfOk result (RunIsRight script.now (0 ∷ [])) }

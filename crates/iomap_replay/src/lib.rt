@@ -9,7 +9,6 @@ mod lines;
 mod numbers;
 mod range;
 mod read;
-
 mod run;
 mod script;
 mod streams;

@@ -24,7 +24,11 @@ fn first_sector(kind: Kind) -> u32
 }
 
 /// The sectors of the extent, in order, and those that no file has. Want of memory is the only error.
-pub fn sectors_of(alloc: Global, script: &Script, job: &Job) -> Result<(Vec<Sector>, Vec<Sector>), AllocError>
+pub fn sectors_of(
+    alloc: Global,
+    script: &Script,
+    job: &Job,
+) -> Result<(Vec<Sector>, Vec<Sector>), AllocError>
     requires { IsJobOf script.now job.now }
     ensures { IfOk result (λ s. s.0.items ≡ blocks_with (device_bytes script.now) (first_number job.now.extent.kind) job.now.extent.length) }
 {
@@ -37,11 +41,25 @@ pub fn sectors_of(alloc: Global, script: &Script, job: &Job) -> Result<(Vec<Sect
 }
 
 /// The range of the one file, with its extent's sectors. Want of memory is the only error.
-pub fn open_range(alloc: Global, script: &Script, job: &Job, own: Vec<Sector>) -> Result<Range, AllocError>
+pub fn open_range(
+    alloc: Global,
+    script: &Script,
+    job: &Job,
+    own: Vec<Sector>,
+) -> Result<Range, AllocError>
     requires job { IsJobOf script.now job.now }
     requires own { own.items ≡ blocks_with (device_bytes script.now) (first_number job.now.extent.kind) job.now.extent.length }
     ensures { IfOk result (λ r. r ≡ range_of job.now.geometry Cached 0 job.now.blocks (job.now.extent ∷ []) own.items 0) }
 {
     let extents: Vec<Extent> = vec![in alloc; job.extent]?;
-    Range::new(alloc, job.geometry, Mode::Cached, 0, job.blocks, extents, own, 0)
+    Range::new(
+        alloc,
+        job.geometry,
+        Mode::Cached,
+        0,
+        job.blocks,
+        extents,
+        own,
+        0,
+    )
 }

@@ -64,7 +64,13 @@ fn whole_end(alloc: Global, bytes: &[u8], place: usize, n: usize) -> Result<Call
 }
 
 /// Reads the range of the call, by one event. Want of memory outside it is the only error.
-pub fn read_once(alloc: Global, script: &Script, job: &Job, range: &mut Range, lane: &mut Lane) -> Result<CallEnd, AllocError>
+pub fn read_once(
+    alloc: Global,
+    script: &Script,
+    job: &Job,
+    range: &mut Range,
+    lane: &mut Lane,
+) -> Result<CallEnd, AllocError>
     requires job { IsJobOf script.now job.now }
     requires opened { range.old ≡ opened_range script.now job.now }
     ensures outcome { IfOk result (λ end. IsOutcome script.now job.now end range.old range.new) }
@@ -79,7 +85,12 @@ pub fn read_once(alloc: Global, script: &Script, job: &Job, range: &mut Range, l
     match range.direct_now(by, lane, block, &mut pages) {
         Ok(_) => {
             let place = (job.asked.off % u64::from(size)) as usize;
-            whole_end(alloc, pages.as_slice()[0].bytes.as_slice(), place, job.asked.length as usize)
+            whole_end(
+                alloc,
+                pages.as_slice()[0].bytes.as_slice(),
+                place,
+                job.asked.length as usize,
+            )
         }
         Err(EventFault::Poison { done }) => {
             let fault = Fault::Eio {

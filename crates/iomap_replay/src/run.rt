@@ -32,7 +32,13 @@ fn quiet_close() -> Answer
 }
 
 /// The run of one call on one file. Want of memory is the only error.
-fn assemble_run(alloc: Global, end: CallEnd, range: RangeEnd, free: Vec<Sector>, lanes: Vec<LaneEnd>) -> Result<Run, AllocError>
+fn assemble_run(
+    alloc: Global,
+    end: CallEnd,
+    range: RangeEnd,
+    free: Vec<Sector>,
+    lanes: Vec<LaneEnd>,
+) -> Result<Run, AllocError>
     ensures { IfOk result (λ run. run ≡ one_run end (file_of_range range) free.items lanes.items) }
 {
     let RangeEnd { extents, blocks } = range;
@@ -49,7 +55,13 @@ fn assemble_run(alloc: Global, end: CallEnd, range: RangeEnd, free: Vec<Sector>,
 
 /// Runs a script of the one form on lane 0. `others` are the ends of the other lanes, which have
 /// nothing to do. Want of memory outside the call's reply is the only error.
-pub fn run_script(alloc: Global, script: &Script, job: &Job, lane: &mut Lane, others: Vec<LaneEnd>) -> Result<Run, AllocError>
+pub fn run_script(
+    alloc: Global,
+    script: &Script,
+    job: &Job,
+    lane: &mut Lane,
+    others: Vec<LaneEnd>,
+) -> Result<Run, AllocError>
     requires job { IsJobOf script.now job.now }
     requires lanes { length others.items ≡ 16 }
     ensures right { IfOk result (RunIsRight script.now (0 ∷ [])) }

@@ -68,12 +68,16 @@ fn head(header: &[u8], device: &[u8], folio: &[u8]) -> Option<(Device, Geometry)
 }
 
 /// The last four lines: the file, its extent, the phase and the read.
-fn tail<'a>(device: Device, file: &'a [u8], extent: &[u8], phase: &[u8], call: &[u8]) -> Option<((&'a [u8], u64), Extent, Asked)>
+fn tail<'a>(
+    device: Device,
+    file: &'a [u8],
+    extent: &[u8],
+    phase: &[u8],
+    call: &[u8],
+) -> Option<((&'a [u8], u64), Extent, Asked)>
     requires { IsTrue (is_block_size device.block_size) }
-    ensures value {
-        option_map (λ t. ((t.0.0.now, t.0.1), t.1, t.2)) result
-          ≡ tail_of device (words file.now) (words extent.now) (words phase.now) (words call.now)
-    }
+    ensures value { option_map (λ t. ((t.0.0.now, t.0.1), t.1, t.2)) result
+        ≡ tail_of device (words file.now) (words extent.now) (words phase.now) (words call.now) }
     ensures facts { IfSome result (λ t. IsTail device t.0.1 t.1 t.2) }
 {
     let (name, blocks) = file_line(file)?;
@@ -99,7 +103,13 @@ fn shape<'a>(lines: &[&'a [u8]]) -> Option<(&'a [u8], Job)>
     }
     let n = lines.len() - 7;
     let (device, geometry) = head(lines[0], lines[1], lines[2])?;
-    let (file, extent, asked) = tail(device, lines[n + 3], lines[n + 4], lines[n + 5], lines[n + 6])?;
+    let (file, extent, asked) = tail(
+        device,
+        lines[n + 3],
+        lines[n + 4],
+        lines[n + 5],
+        lines[n + 6],
+    )?;
     let job = Job {
         device,
         geometry,
@@ -111,7 +121,12 @@ fn shape<'a>(lines: &[&'a [u8]]) -> Option<(&'a [u8], Job)>
 }
 
 /// The script that these lines say. Want of memory is the only error.
-fn assemble(alloc: Global, name: &[u8], job: &Job, blocks: Vec<(u32, Items<u8>)>) -> Result<Script, AllocError>
+fn assemble(
+    alloc: Global,
+    name: &[u8],
+    job: &Job,
+    blocks: Vec<(u32, Items<u8>)>,
+) -> Result<Script, AllocError>
     ensures { IfOk result (λ script. script ≡ script_of_job name.now job.now blocks.items) }
 {
     let extents = vec![in alloc; job.extent]?;

@@ -28,7 +28,11 @@ enum Output {
 }
 
 /// What is to be written of a text. Want of memory outside the calls' replies is the only error.
-fn output_of(alloc: Global, text: &[u8], fates: Vec<Box<dyn Fate + Send>>) -> Result<Output, AllocError>
+fn output_of(
+    alloc: Global,
+    text: &[u8],
+    fates: Vec<Box<dyn Fate + Send>>,
+) -> Result<Output, AllocError>
     requires { length fates.items ≡ 17 }
     ensures { IfOk result (IsOutput text.now (map (λ f. opening_of (count f) (tells f)) fates.items)) }
 {
@@ -102,7 +106,12 @@ fn write_output<K: Sink>(sink: &mut K, output: Output) -> Ending
 }
 
 /// Answers a text that was read.
-fn answer<K: Sink>(alloc: Global, text: &[u8], sink: &mut K, fates: Vec<Box<dyn Fate + Send>>) -> Ending
+fn answer<K: Sink>(
+    alloc: Global,
+    text: &[u8],
+    sink: &mut K,
+    fates: Vec<Box<dyn Fate + Send>>,
+) -> Ending
     requires { length fates.items ≡ 17 }
     ensures { IsAnswer text.now (map (λ f. opening_of (count f) (tells f)) fates.items) result (K.faults sink.old) (K.faults sink.new) (K.taken sink.old) (K.taken sink.new) }
 {
@@ -113,7 +122,12 @@ fn answer<K: Sink>(alloc: Global, text: &[u8], sink: &mut K, fates: Vec<Box<dyn 
 }
 
 /// Reads a source and answers it.
-fn replay_source<S: Source, K: Sink>(alloc: Global, source: &mut S, sink: &mut K, fates: Vec<Box<dyn Fate + Send>>) -> Ending
+fn replay_source<S: Source, K: Sink>(
+    alloc: Global,
+    source: &mut S,
+    sink: &mut K,
+    fates: Vec<Box<dyn Fate + Send>>,
+) -> Ending
     requires { length fates.items ≡ 17 }
     ensures ends { Ends (map (λ f. opening_of (count f) (tells f)) fates.items) result (S.faults source.old) (S.faults source.new)
         (K.faults sink.old) (K.faults sink.new) (S.left source.old) (S.left source.new) (K.taken sink.old) (K.taken sink.new) }
@@ -144,7 +158,14 @@ fn replay_source<S: Source, K: Sink>(alloc: Global, source: &mut S, sink: &mut K
 /// | 4 | the sink failed; the beginning of the text was written |
 /// | 5 | there was no memory outside the calls' replies; nothing was written |
 /// | 64 | there is a word; nothing was read and nothing written |
-pub fn replay<R: Threads + Wait + Sync, S: Source, K: Sink>(rt: &R, alloc: Global, words: &[String], source: &mut S, sink: &mut K, fates: Vec<Box<dyn Fate + Send>>) -> Status
+pub fn replay<R: Threads + Wait + Sync, S: Source, K: Sink>(
+    rt: &R,
+    alloc: Global,
+    words: &[String],
+    source: &mut S,
+    sink: &mut K,
+    fates: Vec<Box<dyn Fate + Send>>,
+) -> Status
     requires seventeen { length fates.items ≡ 17 }
 
     // The words, and that no other status comes.

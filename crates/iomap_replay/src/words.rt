@@ -20,10 +20,8 @@ fn first_at(bytes: &[u8], separator: u8) -> usize
 
 /// The bytes before the first `separator`, and those after it. `None` comes where there is none.
 fn cut(bytes: &[u8], separator: u8) -> Option<(&[u8], &[u8])>
-    ensures pieces {
-        MatchOption result (slice_split (λ b. b == separator) bytes.now ≡ bytes.now ∷ [])
-          (λ r. slice_split (λ b. b == separator) bytes.now ≡ r.0.now ∷ slice_split (λ b. b == separator) r.1.now)
-    }
+    ensures pieces { MatchOption result (slice_split (λ b. b == separator) bytes.now ≡ bytes.now ∷ [])
+        (λ r. slice_split (λ b. b == separator) bytes.now ≡ r.0.now ∷ slice_split (λ b. b == separator) r.1.now) }
     ensures shorter { MatchOption result (length bytes.now ≡ length bytes.now) (λ r. length r.1.now < length bytes.now) }
 {
     let at = first_at(bytes, separator);

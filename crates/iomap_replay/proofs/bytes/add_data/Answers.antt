@@ -1,4 +1,4 @@
-use Rattle.std.proofs.Common.{◌≡◌, sym, ◌∙◌, refl}
+use Rattle.std.proofs.Common.{sym, ◌∙◌, refl}
 use Rattle.iomap_replay.proofs.bytes.add_data.Goals as goal
 
 pub returns-then-is_given-clause-value : goal.returns-then-is_given-clause-value

@@ -6,4 +6,4 @@ pub returns-then-not-branch-clause-value : goal.returns-then-not-branch-clause-v
 returns-then-not-branch-clause-value c =
     let none : Bor (List ℕ) = record { ref_ptr = (0, 0); now = [] } in
     data_fold-refused c.args.device c.args.lines.now c.loop-line.line-index none c.loop-line.given.items _ c.loop-line-test.true
-      (rw c.if-not-branch.true at c.in_ok-add_data.ensures.value) c.loop-line.invariant.0
+    (rw c.if-not-branch.true at c.in_ok-add_data.ensures.value) c.loop-line.invariant.0

@@ -1,4 +1,4 @@
-use Rattle.std.proofs.Common.{◌≡◌, ℕ, List, Some, true, drop, map}
+use Rattle.std.proofs.Common.{◌≡◌, Some, true, drop, map}
 use Rattle.std.specs.List.{fold, list_all}
 use Rattle.iomap_replay.specs.Facts.{is_whole}
 use Rattle.iomap_replay.specs.OnePread.{more_data, data_blocks}

@@ -1,4 +1,4 @@
-use Rattle.std.proofs.Common.{◌≡◌, List, subst, sym}
+use Rattle.std.proofs.Common.{List, subst, sym}
 use Rattle.io_model.specs.declared.file.Extent.{Extent}
 use Rattle.iomap_replay.proofs.OneRange.{can_open}
 use Rattle.range_core.specs.Opening.{CanOpen}

@@ -1,6 +1,5 @@
-use Rattle.std.proofs.Common.{◌≡◌, ℕ, ◌+◌, ◌≤◌, List, length, take, drop, replicate, sym, ◌∙◌, ap, arith}
+use Rattle.std.proofs.Common.{length, take, drop, replicate, sym, ◌∙◌, ap, arith}
 use Rattle.std.proofs.lemmas.List.{length-drop}
-use Rattle.iob_base.specs.DeviceBlock.{DeviceBlock}
 use Rattle.io_model.specs.Contents.{device_bytes}
 use Rattle.iomap_replay.proofs.Devices.{length-blocks_with}
 use Rattle.iomap_replay.proofs.OneRange.{device_is, own_is, first_is}
@@ -28,10 +27,10 @@ returns c =
     let script = c.args.script.now in
     let job = c.args.job.now in
     let made = c.in_ok-free.ensures
-        ∙ ap (λ given. blocks_with (content_given given (replicate job.device.block_size job.device.fill)) 0 job.device.blocks) c.as_slice.ensures
-        ∙ device_is script job job.device.blocks c.requires in
+    ∙ ap (λ given. blocks_with (content_given given (replicate job.device.block_size job.device.fill)) 0 job.device.blocks) c.as_slice.ensures
+    ∙ device_is script job job.device.blocks c.requires in
     c.in_ok-rest.ensures.items
     ∙ ap (take job.extent.length) (c.in_ok-own.ensures.tail
-        ∙ ap (drop c.first_sector-first.result) made ∙ ap (λ k. drop k (blocks_with (device_bytes script) 0 job.device.blocks)) (c.first_sector-first.ensures ∙ first_is job.extent on.mapped.0 on.mapped.1))
+    ∙ ap (drop c.first_sector-first.result) made ∙ ap (λ k. drop k (blocks_with (device_bytes script) 0 job.device.blocks)) (c.first_sector-first.ensures ∙ first_is job.extent on.mapped.0 on.mapped.1))
     ∙ own_is (device_bytes script) on.mapped.0 job.extent.length job.device.blocks on.mapped.2
     ∙ ap (λ n. blocks_with (device_bytes script) n job.extent.length) (sym (first_is job.extent on.mapped.0 on.mapped.1))

@@ -1,4 +1,4 @@
-use Rattle.std.proofs.Common.{◌≡◌, ◌≤◌, ◌-◌, ◌++◌, Some, List, ℕ, length, take}
+use Rattle.std.proofs.Common.{◌≡◌, ◌≤◌, ◌-◌, ◌++◌, Some, length, take}
 use Rattle.std.specs.Option.{IfSome}
 use Rattle.iomap_replay.proofs.streams.deliver.Given as goal
 

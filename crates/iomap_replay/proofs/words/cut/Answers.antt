@@ -1,5 +1,5 @@
-use Rattle.std.proofs.Common.{ℕ, Bool, ◌≡◌, ◌<◌, ◌-◌, ◌+◌, length, take, drop, nat_eq, sym, ◌∙◌, arith}
-use Rattle.std.specs.List.{slice_split, position_or_len}
+use Rattle.std.proofs.Common.{ℕ, Bool, ◌<◌, length, nat_eq, sym, ◌∙◌, arith}
+use Rattle.std.specs.List.{position_or_len}
 use Rattle.std.proofs.lemmas.List.Splits.{slice_split_first}
 use Rattle.std.proofs.lemmas.Grind.{common_steps}
 use Rattle.iomap_replay.proofs.Cuts.{slice_split-whole}

@@ -1,4 +1,4 @@
-use Rattle.std.proofs.Common.{◌≡◌, ◌<◌, ◌≤◌, length, nat_eq, sym, arith, eq-eqb}
+use Rattle.std.proofs.Common.{length, nat_eq, sym, arith, eq-eqb}
 use Rattle.std.proofs.lemmas.List.Sums.{position_or_len_is}
 use Rattle.iomap_replay.proofs.words.first_at.Goals as goal
 
@@ -9,4 +9,4 @@ returns-then-b-separator-clause-place c =
 pub returns-clause-place : goal.returns-clause-place
 returns-clause-place c =
     sym (position_or_len_is (λ b. nat_eq b c.args.separator) c.args.bytes.now (length c.args.bytes.now) 0 (omega arith)
-      (λ k h. c.loop-i.invariant k (omega arith)) (λ h. absurd (omega arith)))
+    (λ k h. c.loop-i.invariant k (omega arith)) (λ h. absurd (omega arith)))
