@@ -1,0 +1,5 @@
+pub mod Appended
+pub mod Digits
+pub mod Ended
+pub mod Extents
+pub mod Runs
