@@ -174,3 +174,9 @@ read_short i runs e f h p q =
     let n : i + 1 ≡ suc i = omega arith in
     let g : f ≡ get_or runs (suc i) e = get_or_read runs (i + 1) f h q e ∙ ap (λ x. get_or runs x e) n in
     omega (arith, ap (λ x. x.length) p, ap (λ x. x.length) g, both_short i runs e (omega arith))
+
+pub glue_yes : (e f : Extent) (es : List Extent) → could_be_joined e f ≡ true → glue e (f ∷ es) ≡ longer e f.length ∷ es
+glue_yes e f es h = yes_by (could_be_joined e f) e f es h
+
+pub glue_no : (e f : Extent) (es : List Extent) → could_be_joined e f ≡ false → glue e (f ∷ es) ≡ e ∷ f ∷ es
+glue_no e f es h = not_by (could_be_joined e f) e f es h

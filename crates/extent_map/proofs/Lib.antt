@@ -4,4 +4,6 @@ pub mod Looking
 pub mod Merged
 pub mod Seeking
 pub mod Setting
+pub mod Unique
+pub mod Walking
 pub mod Whole

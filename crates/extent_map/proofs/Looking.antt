@@ -8,7 +8,8 @@ use Rattle.io_model.specs.declared.file.Kind.{Kind}
 use Rattle.io_model.specs.declared.file.Kind.TheVariants.{Hole, Delalloc, Unwritten, Mapped}
 use Rattle.extent_map.specs.Expansion.{run_of, kinds_of, NumbersFit}
 use Rattle.extent_map.specs.Keeping.{Apart, BeginsAt, FollowOn, LiesIn, goes_on, start_of}
-use Rattle.extent_map.specs.Longest.{IsLongest, IsRunAt}
+use Rattle.extent_map.specs.Longest.{IsLongest, IsLookup, IsRunAt, begins}
+use Rattle.extent_map.specs.Splicing.{run_at}
 use Rattle.extent_map.proofs.Following.{ReadAt, fits_part, read_or, drop-run_of, kind_after-after, kind_after-zero, kinds_of-append, length-run_of, take-run_of}
 
 -- kinds that the test finds equal are equal
@@ -36,12 +37,7 @@ is_kind-same Delalloc = refl
 is_kind-same (Unwritten d) = eq-eqb d d refl
 is_kind-same (Mapped d) = eq-eqb d d refl
 
--- the list begins with this kind
-abbrev pub begins : Kind → List Kind → Bool
-begins k [] = false
-begins k (x ∷ xs) = is_kind k x
-
-begins_run : (k x : Kind) (n : ℕ) (t : List Kind) → 0 < n → begins k (run_of x n ++ t) ≡ is_kind k x
+pub begins_run : (k x : Kind) (n : ℕ) (t : List Kind) → 0 < n → begins k (run_of x n ++ t) ≡ is_kind k x
 begins_run k x zero t h = absurd (omega arith)
 begins_run k x (suc n) t h = refl
 
@@ -70,7 +66,7 @@ no_longer k (suc r) t (suc n) h e =
     let none : begins (kind_after (kind_after k 1) r) t ≡ false = ap (λ q. begins q t) (kind_after-after k 1 r ∙ ap (kind_after k) step) ∙ h in
     omega (arith, no_longer (kind_after k 1) r t n none tails)
 
-longest_run : (k : Kind) (rest : ℕ) (t : List Kind) (x : Kind) (n : ℕ) → 0 < rest → begins (kind_after k rest) t ≡ false → take n (run_of k rest ++ t) ≡ run_of x n → n ≤ rest
+pub longest_run : (k : Kind) (rest : ℕ) (t : List Kind) (x : Kind) (n : ℕ) → 0 < rest → begins (kind_after k rest) t ≡ false → take n (run_of k rest ++ t) ≡ run_of x n → n ≤ rest
 longest_run k rest t x zero some h e = omega arith
 longest_run k zero t x (suc n) some h e = absurd (omega arith)
 longest_run k (suc r) t x (suc n) some h e =
@@ -145,27 +141,23 @@ number_fits (Unwritten d) i n h f = omega arith
 number_fits (Mapped d) i n h f = omega arith
 
 -- what a look-up gives
-pub record Looked (runs : List Extent) (b max : ℕ) (k : Kind) (n : ℕ) : Type 0 where
-  pub some : 1 ≤ n
-  pub run : IsRunAt (kinds_of runs) b k n
-  pub longest : IsLongest (kinds_of runs) b max n
-  pub numbers : NumbersFit k n
-
-look : (runs : List Extent) (b max : ℕ) (e : Extent) → Seen runs b e → 1 ≤ max → Looked runs b max (kind_after e.kind (b - e.block)) (min max (e.length - (b - e.block)))
+look : (runs : List Extent) (b max : ℕ) (e : Extent) → Seen runs b e → 1 ≤ max → IsLookup (kinds_of runs) b max (run_at b (min max (e.length - (b - e.block))) (kind_after e.kind (b - e.block)))
 look runs b max e s m =
     let from = s.from in
     let below = s.below in
     let k : Kind = kind_after e.kind (b - e.block) in
     let rest : ℕ = e.length - (b - e.block) in
     record {
+      block = refl;
       some = omega arith;
+      cut = omega arith;
       run = run_here (kinds_of runs) b k rest (min max rest) s.tail s.rest (omega arith);
       longest = longest_here (kinds_of runs) b max k rest s.tail s.rest (omega arith) s.none;
       numbers = fits_part e.kind (b - e.block) (min max rest) e.length (omega arith) s.fits;
     }
 
-pub looked : (runs : List Extent) (b max : ℕ) (e : Extent) (k : Kind) (n : ℕ) → Seen runs b e → 1 ≤ max → k ≡ kind_after e.kind (b - e.block) → n ≡ min max (e.length - (b - e.block)) → Looked runs b max k n
+pub looked : (runs : List Extent) (b max : ℕ) (e : Extent) (k : Kind) (n : ℕ) → Seen runs b e → 1 ≤ max → k ≡ kind_after e.kind (b - e.block) → n ≡ min max (e.length - (b - e.block)) → IsLookup (kinds_of runs) b max (run_at b n k)
 looked runs b max e k n s m p q =
-    let P : Kind → Type 0 = λ x. Looked runs b max x n in
-    let Q : ℕ → Type 0 = λ x. Looked runs b max (kind_after e.kind (b - e.block)) x in
+    let P : Kind → Type 0 = λ x. IsLookup (kinds_of runs) b max (run_at b n x) in
+    let Q : ℕ → Type 0 = λ x. IsLookup (kinds_of runs) b max (run_at b x (kind_after e.kind (b - e.block))) in
     subst P (sym p) (subst Q (sym q) (look runs b max e s m))

@@ -9,7 +9,7 @@ use Rattle.extent_map.specs.Merged.{IsMergedList}
 use Rattle.extent_map.proofs.Following.{length-kinds_of}
 
 -- runs that follow on one another and are apart are a merged list
-merged_from : (a b : ℕ) (runs : List Extent) → FollowOn a runs → Apart runs → a + length (kinds_of runs) ≡ b → is_merged_from a b runs ≡ true
+pub merged_from : (a b : ℕ) (runs : List Extent) → FollowOn a runs → Apart runs → a + length (kinds_of runs) ≡ b → is_merged_from a b runs ≡ true
 merged_from a b [] f p e = eq-eqb a b (omega arith)
 merged_from a b (e ∷ []) f p n =
     and_from (e.block == a) _ (eq-eqb e.block a f.0.at)

@@ -106,7 +106,7 @@ back_of runs i b e r a h m =
     }
 
 -- a list of kinds with a run in it is as long as it was
-length-with_run : (kinds : List Kind) (b n : ℕ) (k : Kind) → b + n ≤ length kinds → length (with_run kinds b n k) ≡ length kinds
+pub length-with_run : (kinds : List Kind) (b n : ℕ) (k : Kind) → b + n ≤ length kinds → length (with_run kinds b n k) ≡ length kinds
 length-with_run kinds b n k h =
     let taken : length (take b kinds) ≡ b = length-take-le b kinds (omega arith) in
     omega
@@ -115,6 +115,7 @@ length-with_run kinds b n k h =
 -- the runs after a run was put between those before it and those after it
 pub record Put (runs : List Extent) (b n : ℕ) (k : Kind) (now : List Extent) : Type 0 where
   pub kinds : kinds_of now ≡ with_run (kinds_of runs) b n k
+  pub as_long : length (kinds_of now) ≡ length (kinds_of runs)
   pub kept : IsKept now
 
 -- kinds of three parts
@@ -134,6 +135,7 @@ put runs l r b n k f g some fits inside short =
     let begins : BeginsAt b m = record { at = refl; some = some; fits = fits } in
     record {
       kinds = kinds;
+      as_long = ap length kinds ∙ length-with_run (kinds_of runs) b n k inside;
       kept = record {
         follow = follow_attach 0 l (glue m r) f.follow (subst P (sym at) (follow_glue b m r (begins, g.follow)));
         apart = apart_attach l (glue m r) f.apart (apart_glue m r g.apart);

@@ -19,6 +19,7 @@ pub(crate) fn set_run(runs: &mut Vec<Extent>, b: u64, n: u64, kind: Kind)
     requires numbers { NumbersFit kind n }
     requires room { vec_len runs.old + 2 ≤ vec_capacity runs.old }
     ensures kinds { kinds_of runs.new.items ≡ with_run (kinds_of runs.old.items) b n kind }
+    ensures length { length (kinds_of runs.new.items) ≡ length (kinds_of runs.old.items) }
     ensures kept { IsKept runs.new.items }
     ensures len { vec_len runs.new ≤ vec_len runs.old + 2 }
     ensures capacity { vec_capacity runs.new ≡ vec_capacity runs.old }

@@ -1,8 +1,10 @@
 //! Kinds and runs of them.
 ghost use Rattle.std.specs.Prelude.{◌≡◌, ◌==◌, ◌+◌, ◌-◌, ◌<◌, ◌≤◌, ◌^◌, IfSome};
+ghost use Rattle.std.specs.Bool.{OnTrue};
+ghost use Rattle.extent_map.specs.Expansion.{NumbersFit};
 ghost use Rattle.extent_map.specs.Sorts as sorts;
 ghost use Rattle.io_model.specs.Fitting.{could_be_joined};
-ghost use Rattle.io_model.specs.Kinds.{device_number, kind_after};
+ghost use Rattle.io_model.specs.Kinds.{device_number, is_kind, kind_after};
 
 use io_model::{Extent, Kind};
 
@@ -23,18 +25,27 @@ pub(crate) fn nth_kind(kind: Kind, i: u64) -> Kind
 pub(crate) fn can_join(run: &Extent, next: &Extent) -> bool
     ensures { result ≡ could_be_joined run.now next.now }
 {
-    match (run.kind, next.kind) {
+    is_next(run.kind, run.length, next.kind)
+}
+
+/// Whether `next` is the kind of the block after `n` blocks that begin with `kind`.
+pub(crate) fn is_next(kind: Kind, n: u64, next: Kind) -> bool
+    ensures test { result ≡ is_kind (kind_after kind n) next }
+    ensures fits { OnTrue result (NumbersFit kind (n + 1)) }
+{
+    match (kind, next) {
         (Kind::Hole, Kind::Hole) => true,
         (Kind::Delalloc, Kind::Delalloc) => true,
-        (Kind::Unwritten(d), Kind::Unwritten(e)) => is_after(d, run.length, e),
-        (Kind::Mapped(d), Kind::Mapped(e)) => is_after(d, run.length, e),
+        (Kind::Unwritten(d), Kind::Unwritten(e)) => is_after(d, n, e),
+        (Kind::Mapped(d), Kind::Mapped(e)) => is_after(d, n, e),
         _ => false,
     }
 }
 
 /// Whether `e` is the device number `n` after `d`.
 fn is_after(d: u32, n: u64, e: u32) -> bool
-    ensures { result ≡ (d + n == e) }
+    ensures test { result ≡ (d + n == e) }
+    ensures fits { OnTrue result (d + (n + 1) ≤ 2 ^ 32) }
 {
     if e < d {
         return false;

@@ -3,9 +3,14 @@
 
 mod edit;
 mod kind;
+mod laws;
 mod map;
 mod place;
+mod plain;
 mod seek;
+mod walk;
 
 pub use io_model::{Extent, Kind};
+pub use laws::merged_list_is_unique;
 pub use map::ExtentMap;
+pub use plain::PlainMap;

@@ -2,7 +2,7 @@
 ghost use Rattle.std.specs.Prelude.{◌≡◌, ◌+◌, ◌<◌, ◌≤◌, IfOk, IfSome, IfNone, OnOk, OnErr, length, replicate};
 ghost use Rattle.extent_map.specs.BlockKinds.{with_run};
 ghost use Rattle.extent_map.specs.Expansion.{NumbersFit, run_of};
-ghost use Rattle.extent_map.specs.Longest.{IsLongest, IsRunAt};
+ghost use Rattle.extent_map.specs.Longest.{IsLookup};
 ghost use Rattle.extent_map.specs.Merged.{IsMergedList};
 ghost use Rattle.extent_map.specs.Sorts.{IsLeastFrom, NoneBetween, is_data, is_hole};
 ghost use Rattle.io_model.specs.declared.file.Kind.TheVariants.{Hole};
@@ -58,12 +58,7 @@ impl ExtentMap {
     pub fn lookup(&self, b: u64, max: u64) -> Extent
         requires inside { b < length self.now.kinds }
         requires some { 1 ≤ max }
-        ensures block { result.block ≡ b }
-        ensures some { 1 ≤ result.length }
-        ensures cut { result.length ≤ max }
-        ensures run { IsRunAt self.now.kinds b result.kind result.length }
-        ensures longest { IsLongest self.now.kinds b max result.length }
-        ensures numbers { NumbersFit result.kind result.length }
+        ensures { IsLookup self.now.kinds b max result }
     {
         longest_run(&self.runs, b, max)
     }
@@ -86,6 +81,7 @@ impl ExtentMap {
         requires numbers { NumbersFit kind n }
         requires cuts { 2 ≤ self.old.spare }
         ensures kinds { self.new.kinds ≡ with_run self.old.kinds b n kind }
+        ensures length { length self.new.kinds ≡ length self.old.kinds }
         ensures cuts { self.old.spare ≤ self.new.spare + 2 }
     {
         set_run(&mut self.runs, b, n, kind);

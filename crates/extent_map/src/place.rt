@@ -2,7 +2,7 @@
 ghost use Rattle.std.specs.Prelude.{◌≡◌, ◌<◌, ◌≤◌, length};
 ghost use Rattle.extent_map.specs.Expansion.{kinds_of, NumbersFit};
 ghost use Rattle.extent_map.specs.Keeping.{Apart, FollowOn, LiesIn};
-ghost use Rattle.extent_map.specs.Longest.{IsLongest, IsRunAt};
+ghost use Rattle.extent_map.specs.Longest.{IsLookup};
 
 use crate::kind::nth_kind;
 use io_model::Extent;
@@ -32,12 +32,7 @@ pub(crate) fn longest_run(runs: &[Extent], b: u64, max: u64) -> Extent
     requires apart { Apart runs.now }
     requires inside { b < length (kinds_of runs.now) }
     requires some { 1 ≤ max }
-    ensures block { result.block ≡ b }
-    ensures some { 1 ≤ result.length }
-    ensures cut { result.length ≤ max }
-    ensures run { IsRunAt (kinds_of runs.now) b result.kind result.length }
-    ensures longest { IsLongest (kinds_of runs.now) b max result.length }
-    ensures numbers { NumbersFit result.kind result.length }
+    ensures { IsLookup (kinds_of runs.now) b max result }
 {
     let run = runs[place_of(runs, b)];
     let skipped = b - run.block;

@@ -23,3 +23,8 @@ pub returns-clause-kept : goal.returns-clause-kept
 returns-clause-kept c =
     (put_after c.args.runs.now.items c.splice-from.new.runs.items c.join.new.runs.items c.join_before.new.runs.items c.args.b c.args.n c.args.kind c.splice-from.result
     c.splice-from.ensures.stands c.join.ensures.items c.join_before.ensures.items c.requires.some c.requires.numbers c.requires.inside c.requires.kept.short).kept
+
+pub returns-clause-length : goal.returns-clause-length
+returns-clause-length c =
+    (put_after c.args.runs.now.items c.splice-from.new.runs.items c.join.new.runs.items c.join_before.new.runs.items c.args.b c.args.n c.args.kind c.splice-from.result
+    c.splice-from.ensures.stands c.join.ensures.items c.join_before.ensures.items c.requires.some c.requires.numbers c.requires.inside c.requires.kept.short).as_long
