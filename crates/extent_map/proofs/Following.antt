@@ -1,11 +1,11 @@
-use Rattle.std.proofs.Common.{◌≡◌, ℕ, zero, suc, ◌+◌, ◌-◌, ◌<◌, ◌≤◌, ◌^◌, Bool, true, false, List, [], ◌∷◌, ◌++◌, length, take, drop, get_or, refl, sym, ◌∙◌, ap, subst, arith, add-zero, add-one, zero-add, add_assoc, append_assoc, length-append, length-drop}
-use Rattle.std.proofs.lemmas.List.{take_at, drop_at, take_all, append-nil, get_or_default, take-append-drop, drop_more, take_more}
-use Rattle.io_model.specs.Kinds.{kind_after, device_number}
+use Rattle.std.proofs.Common.{◌≡◌, ℕ, zero, suc, ◌+◌, ◌-◌, ◌<◌, ◌≤◌, List, [], ◌∷◌, ◌++◌, length, take, drop, get_or, refl, sym, ◌∙◌, ap, subst, arith, add-zero, zero-add, append_assoc, length-append}
+use Rattle.std.proofs.lemmas.List.{take_at, drop_at, take_all, get_or_default, take-append-drop, drop_more, take_more}
+use Rattle.io_model.specs.Kinds.{kind_after}
 use Rattle.io_model.specs.declared.file.Extent.{Extent}
 use Rattle.io_model.specs.declared.file.Kind.{Kind}
 use Rattle.io_model.specs.declared.file.Kind.TheVariants.{Hole, Delalloc, Unwritten, Mapped}
 use Rattle.extent_map.specs.Expansion.{run_of, kinds_of, NumbersFit}
-use Rattle.extent_map.specs.Keeping.{BeginsAt, FollowOn, start_of, LiesIn}
+use Rattle.extent_map.specs.Keeping.{BeginsAt, FollowOn, start_of}
 
 -- the kind of the first block, and of a block counted in two steps
 pub kind_after-zero : (k : Kind) → kind_after k 0 ≡ k
@@ -105,11 +105,11 @@ read_at runs i e f h r =
     let P : ℕ → Type 0 = λ n. FollowOn n (e ∷ drop (i + 1) runs) in
     let b : FollowOn (start_of runs i) (e ∷ drop (i + 1) runs) = subst P (zero-add (start_of runs i)) (follow_back 0 (take i runs) (e ∷ drop (i + 1) runs) g) in
     let n : start_of runs (i + 1) ≡ start_of runs i + length (kinds_of (e ∷ [])) =
-      ap (λ l. length (kinds_of l)) (take_more runs i e h ∙ ap (λ x. take i runs ++ x ∷ []) (sym r))
-      ∙ ap length (kinds_of-append (take i runs) (e ∷ [])) ∙ length-append (kinds_of (take i runs)) (kinds_of (e ∷ [])) in
+    ap (λ l. length (kinds_of l)) (take_more runs i e h ∙ ap (λ x. take i runs ++ x ∷ []) (sym r))
+    ∙ ap length (kinds_of-append (take i runs) (e ∷ [])) ∙ length-append (kinds_of (take i runs)) (kinds_of (e ∷ [])) in
     let t : length (kinds_of runs) ≡ start_of runs i + length (kinds_of (e ∷ drop (i + 1) runs)) =
-      ap (λ l. length (kinds_of l)) s
-      ∙ ap length (kinds_of-append (take i runs) (e ∷ drop (i + 1) runs)) ∙ length-append (kinds_of (take i runs)) (kinds_of (e ∷ drop (i + 1) runs)) in
+    ap (λ l. length (kinds_of l)) s
+    ∙ ap length (kinds_of-append (take i runs) (e ∷ drop (i + 1) runs)) ∙ length-append (kinds_of (take i runs)) (kinds_of (e ∷ drop (i + 1) runs)) in
     record {
       begins = b.0;
       next = omega (arith, n, length-kinds_of e []);

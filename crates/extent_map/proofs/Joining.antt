@@ -1,4 +1,4 @@
-use Rattle.std.proofs.Common.{◌≡◌, ℕ, zero, suc, ◌+◌, ◌-◌, ◌<◌, ◌≤◌, Bool, true, false, if◌then◌else◌, List, [], ◌∷◌, ◌++◌, length, take, drop, set, get_or, refl, sym, ◌∙◌, ap, subst, arith, add-zero, add_assoc, append_assoc}
+use Rattle.std.proofs.Common.{◌≡◌, ℕ, zero, suc, ◌+◌, ◌<◌, ◌≤◌, Bool, true, false, if◌then◌else◌, List, [], ◌∷◌, ◌++◌, length, take, drop, set, get_or, refl, sym, ◌∙◌, ap, subst, arith, add-zero, append_assoc}
 use Rattle.std.specs.Prelude.{remove}
 use Rattle.std.proofs.lemmas.List.{append-nil, get_or_read, take-append-drop}
 use Rattle.io_model.specs.Fitting.{could_be_joined}
@@ -8,8 +8,8 @@ use Rattle.io_model.specs.declared.file.Kind.{Kind}
 use Rattle.io_model.specs.declared.file.Kind.TheVariants.{Hole, Delalloc, Unwritten, Mapped}
 use Rattle.extent_map.specs.Edits.{attach, glue, joined_at, longer}
 use Rattle.extent_map.specs.Expansion.{NumbersFit, kinds_of, run_of}
-use Rattle.extent_map.specs.Keeping.{Apart, BeginsAt, FollowOn, goes_on}
-use Rattle.extent_map.proofs.Following.{kind_after-after, kinds_of-append, length-kinds_of, run_of-add}
+use Rattle.extent_map.specs.Keeping.{Apart, FollowOn, goes_on}
+use Rattle.extent_map.proofs.Following.{kind_after-after, length-kinds_of, run_of-add}
 use Rattle.extent_map.proofs.Looking.{is_kind-true}
 
 -- glue with its test as an argument
@@ -59,7 +59,7 @@ goes_on_same e f (g ∷ es) h = ap (λ k. is_kind k g.kind) h
 apart_by : (t : Bool) (e f : Extent) (es : List Extent) → could_be_joined e f ≡ t → Apart (f ∷ es) → Apart (glue_by t e f es)
 apart_by true e f es h a =
     let k : kind_after e.kind (e.length + f.length) ≡ kind_after f.kind f.length =
-      sym (kind_after-after e.kind e.length f.length) ∙ ap (λ q. kind_after q f.length) (is_kind-true (kind_after e.kind e.length) f.kind h) in
+    sym (kind_after-after e.kind e.length f.length) ∙ ap (λ q. kind_after q f.length) (is_kind-true (kind_after e.kind e.length) f.kind h) in
     (goes_on_same (longer e f.length) f es k ∙ a.0, a.1)
 apart_by false e f es h a = (h, a)
 

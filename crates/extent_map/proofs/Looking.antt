@@ -1,14 +1,13 @@
-use Rattle.std.proofs.Common.{◌≡◌, ℕ, zero, suc, ◌+◌, ◌-◌, ◌<◌, ◌≤◌, ◌^◌, Bool, true, false, List, [], ◌∷◌, ◌++◌, length, take, drop, get_or, min, IfSome, refl, sym, ◌∙◌, ap, subst, arith, add-one}
+use Rattle.std.proofs.Common.{◌≡◌, ℕ, zero, suc, ◌+◌, ◌-◌, ◌<◌, ◌≤◌, ◌^◌, true, false, List, [], ◌∷◌, ◌++◌, length, take, drop, get_or, min, IfSome, refl, sym, ◌∙◌, ap, subst, arith}
 use Rattle.std.proofs.lemmas.Bool.{eq-eqb, eqb-true, both_ways}
 use Rattle.std.proofs.lemmas.List.{drop_at, drop-drop, drop-append-le, take-append-le}
-use Rattle.io_model.specs.Fitting.{could_be_joined}
 use Rattle.io_model.specs.Kinds.{device_number, kind_after, is_kind}
 use Rattle.io_model.specs.declared.file.Extent.{Extent}
 use Rattle.io_model.specs.declared.file.Kind.{Kind}
 use Rattle.io_model.specs.declared.file.Kind.TheVariants.{Hole, Delalloc, Unwritten, Mapped}
 use Rattle.extent_map.specs.Expansion.{run_of, kinds_of, NumbersFit}
-use Rattle.extent_map.specs.Keeping.{Apart, BeginsAt, FollowOn, LiesIn, goes_on, start_of}
-use Rattle.extent_map.specs.Longest.{IsLongest, IsLookup, IsRunAt, begins}
+use Rattle.extent_map.specs.Keeping.{Apart, FollowOn, LiesIn, goes_on, start_of}
+use Rattle.extent_map.specs.Longest.{IsLongest, IsLookup, begins}
 use Rattle.extent_map.specs.Splicing.{run_at}
 use Rattle.extent_map.proofs.Following.{ReadAt, fits_part, read_or, drop-run_of, kind_after-after, kind_after-zero, kinds_of-append, length-run_of, take-run_of}
 

@@ -1,7 +1,7 @@
-use Rattle.std.proofs.Common.{◌≡◌, ℕ, zero, suc, ◌+◌, ◌-◌, ◌<◌, ◌≤◌, Bool, true, false, not, cond, List, [], ◌∷◌, ◌++◌, length, drop, get_or, Option, Some, None, IfNone, IfSome, IsTrue, inl, inr, refl, sym, ◌∙◌, ap, subst, arith, add-zero, length-drop}
+use Rattle.std.proofs.Common.{◌≡◌, ℕ, zero, suc, ◌+◌, ◌-◌, ◌<◌, ◌≤◌, Bool, true, false, not, cond, List, [], ◌∷◌, ◌++◌, length, drop, get_or, Option, Some, None, IfNone, IfSome, inl, inr, refl, sym, ◌∙◌, ap, subst, arith, add-zero, length-drop}
 use Rattle.std.specs.List.{position_from}
 use Rattle.std.proofs.lemmas.Bool.{cases_eq, cond-false, cond-true}
-use Rattle.std.proofs.lemmas.List.{drop_all, drop_more, get_or-drop, get_or_default}
+use Rattle.std.proofs.lemmas.List.{drop_all, drop_more, get_or-drop}
 use Rattle.io_model.specs.Kinds.{kind_after}
 use Rattle.io_model.specs.declared.file.Extent.{Extent}
 use Rattle.io_model.specs.declared.file.Kind.{Kind}
@@ -107,10 +107,10 @@ found_tail p k xs b x other_sort f =
       within = omega (arith, f.within);
       here = ap (λ i. p (get_or (k ∷ xs) i Hole)) n ∙ f.here;
       before = λ y l m.
-        elim (cases_eq y b) [
-          inl same ↦ (let z : y - b ≡ 0 = omega arith in ap (λ i. p (get_or (k ∷ xs) i Hole)) z ∙ other_sort)
-        | inr apart ↦ (let z : y - b ≡ suc (y - (b + 1)) = omega arith in ap (λ i. p (get_or (k ∷ xs) i Hole)) z ∙ f.before y (omega arith) m)
-        ];
+          elim (cases_eq y b) [
+            | inl same ↦ (let z : y - b ≡ 0 = omega arith in ap (λ i. p (get_or (k ∷ xs) i Hole)) z ∙ other_sort)
+            | inr apart ↦ (let z : y - b ≡ suc (y - (b + 1)) = omega arith in ap (λ i. p (get_or (k ∷ xs) i Hole)) z ∙ f.before y (omega arith) m)
+          ];
     }
 
 found_step : (t : Bool) (p : Kind → Bool) (k : Kind) (xs : List Kind) (b x : ℕ) → p k ≡ t → cond t (Some b) (position_from p (b + 1) xs) ≡ Some x → ((position_from p (b + 1) xs ≡ Some x) → Found p xs (b + 1) x) → Found p (k ∷ xs) b x
@@ -119,6 +119,7 @@ found_step true p k xs b x is e rec =
     let P : ℕ → Type 0 = Found p (k ∷ xs) b in
     subst P same (found_head p k xs b is)
 found_step false p k xs b x is e rec = found_tail p k xs b x is (rec e)
+
 found : (p : Kind → Bool) (xs : List Kind) (b x : ℕ) → position_from p b xs ≡ Some x → Found p xs b x
 found p [] b x e = absurd (cc)
 found p (k ∷ xs) b x e = found_step (p k) p k xs b x refl e (found p xs (b + 1) x)
@@ -133,8 +134,8 @@ none_in p [] b e y l m = absurd (omega arith)
 none_in p (k ∷ xs) b e y l m =
     let s = none_step (p k) p xs b e in
     elim (cases_eq y b) [
-      inl same ↦ (let z : y - b ≡ 0 = omega arith in ap (λ i. p (get_or (k ∷ xs) i Hole)) z ∙ s.0)
-    | inr apart ↦ (let z : y - b ≡ suc (y - (b + 1)) = omega arith in ap (λ i. p (get_or (k ∷ xs) i Hole)) z ∙ none_in p xs (b + 1) s.1 y (omega arith) (omega arith))
+      | inl same ↦ (let z : y - b ≡ 0 = omega arith in ap (λ i. p (get_or (k ∷ xs) i Hole)) z ∙ s.0)
+      | inr apart ↦ (let z : y - b ≡ suc (y - (b + 1)) = omega arith in ap (λ i. p (get_or (k ∷ xs) i Hole)) z ∙ none_in p xs (b + 1) s.1 y (omega arith) (omega arith))
     ]
 
 -- in the whole list

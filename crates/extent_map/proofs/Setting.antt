@@ -1,8 +1,7 @@
-use Rattle.std.proofs.Common.{◌≡◌, ℕ, zero, suc, ◌+◌, ◌-◌, ◌<◌, ◌≤◌, ◌^◌, Bool, true, false, nat_le, if◌then◌else◌, List, [], ◌∷◌, ◌++◌, length, take, drop, get_or, inl, inr, refl, sym, ◌∙◌, ap, subst, arith, zero-add, append_assoc, length-append, length-take, length-drop}
+use Rattle.std.proofs.Common.{◌≡◌, ℕ, zero, suc, ◌+◌, ◌-◌, ◌<◌, ◌≤◌, ◌^◌, Bool, true, false, nat_le, if◌then◌else◌, List, [], ◌∷◌, ◌++◌, length, take, drop, get_or, inl, inr, refl, sym, ◌∙◌, ap, subst, arith, zero-add, append_assoc, length-append, length-drop}
 use Rattle.std.proofs.Math.Seq.{take-append-add}
 use Rattle.std.proofs.lemmas.Bool.{cases_lt, leb-true, leb-false}
 use Rattle.std.proofs.lemmas.List.{append-nil, drop_at, drop-drop, length-take-le, take_at, take-append-le}
-use Rattle.io_model.specs.Fitting.{could_be_joined}
 use Rattle.io_model.specs.Kinds.{kind_after, is_kind}
 use Rattle.io_model.specs.declared.file.Extent.{Extent}
 use Rattle.io_model.specs.declared.file.Kind.{Kind}
@@ -53,10 +52,10 @@ front_of runs i b e r a h m =
     let le : s ≤ length (run_of e.kind e.length) = omega (arith, length-run_of e.kind e.length) in
     let whole : kinds_of runs ≡ kinds_of (take i runs) ++ (run_of e.kind e.length ++ kinds_of tail) = ap kinds_of r.split ∙ kinds_of-append (take i runs) (e ∷ tail) in
     let taken : take b (kinds_of runs) ≡ kinds_of (take i runs) ++ run_of e.kind s =
-      ap (λ x. take x (kinds_of runs)) n
-      ∙ ap (take (start_of runs i + s)) whole
-      ∙ take-append-add (kinds_of (take i runs)) (run_of e.kind e.length ++ kinds_of tail) s
-      ∙ ap (λ l. kinds_of (take i runs) ++ l) (take-append-le s (run_of e.kind e.length) (kinds_of tail) le ∙ take-run_of e.kind s e.length (omega arith)) in
+    ap (λ x. take x (kinds_of runs)) n
+    ∙ ap (take (start_of runs i + s)) whole
+    ∙ take-append-add (kinds_of (take i runs)) (run_of e.kind e.length ++ kinds_of tail) s
+    ∙ ap (λ l. kinds_of (take i runs) ++ l) (take-append-le s (run_of e.kind e.length) (kinds_of tail) le ∙ take-run_of e.kind s e.length (omega arith)) in
     let A : List Extent → Type 0 = Apart in
     let P : ℕ → Type 0 = λ x. FollowOn x (below_by t e b) in
     record {
@@ -129,7 +128,7 @@ pub put : (runs l r : List Extent) (b n : ℕ) (k : Kind) → Front runs b l →
 put runs l r b n k f g some fits inside short =
     let m : Extent = run_at b n k in
     let kinds : kinds_of (attach l (glue m r)) ≡ with_run (kinds_of runs) b n k =
-      kinds_of-attach l (glue m r) ∙ ap (λ x. kinds_of l ++ x) (kinds_of-glue m r) ∙ parts runs l r b n k f g in
+    kinds_of-attach l (glue m r) ∙ ap (λ x. kinds_of l ++ x) (kinds_of-glue m r) ∙ parts runs l r b n k f g in
     let at : 0 + length (kinds_of l) ≡ b = omega (arith, ap length f.kinds, length-take-le b (kinds_of runs) (omega arith)) in
     let P : ℕ → Type 0 = λ x. FollowOn x (glue m r) in
     let begins : BeginsAt b m = record { at = refl; some = some; fits = fits } in
@@ -160,9 +159,9 @@ spliced runs cut mid now l rest m first last from taken within same order is_mid
     let tail : List Extent = drop (last + 1) runs in
     let n : last + 1 ≡ first + 1 + (last - first) = omega arith in
     let dropped : drop (last + 1) cut ≡ tail =
-      ap (λ x. drop x cut) n ∙ sym (drop-drop (last - first) (first + 1) cut) ∙ ap (drop (last - first)) same ∙ drop-drop (last - first) (first + 1) runs ∙ ap (λ x. drop x runs) (sym n) in
+    ap (λ x. drop x cut) n ∙ sym (drop-drop (last - first) (first + 1) cut) ∙ ap (drop (last - first)) same ∙ drop-drop (last - first) (first + 1) runs ∙ ap (λ x. drop x runs) (sym n) in
     let mid_is : mid ≡ (l ++ m ∷ []) ++ tail =
-      is_mid ∙ ap (λ x. x ++ m ∷ drop (last + 1) cut) taken ∙ ap (λ x. l ++ m ∷ x) dropped ∙ sym (append_assoc l (m ∷ []) tail) in
+    is_mid ∙ ap (λ x. x ++ m ∷ drop (last + 1) cut) taken ∙ ap (λ x. l ++ m ∷ x) dropped ∙ sym (append_assoc l (m ∷ []) tail) in
     let long : length (l ++ m ∷ []) ≡ from + 1 = omega (arith, length-append l (m ∷ []), ap length taken, length-take-le from cut within) in
     is_now
     ∙ ap (λ x. take (from + 1) x ++ (rest ++ drop (from + 1) x)) mid_is
@@ -194,8 +193,8 @@ start_mono (e ∷ runs) (suc i) (suc j) h =
 pub places_in_order : (runs : List Extent) (b c i j : ℕ) → LiesIn runs b i → LiesIn runs c j → b ≤ c → i ≤ j
 places_in_order runs b c i j p q h =
     elim (cases_lt j i) [
-      inl less ↦ absurd (omega (arith, start_mono runs (j + 1) i (omega arith), p.from, q.below))
-    | inr more ↦ more
+      | inl less ↦ absurd (omega (arith, start_mono runs (j + 1) i (omega arith), p.from, q.below))
+      | inr more ↦ more
     ]
 
 pub between : (runs cut mid now rest : List Extent) (b n : ℕ) (k : Kind) (first last from : ℕ) (f : Extent) → IsKept runs → 1 ≤ n → LiesIn runs b first → LiesIn runs (b + n - 1) last → f ≡ get_or runs last f → rest ≡ rest_list f (b + n) → ((d : Extent) → take from cut ≡ take first runs ++ below_list (get_or runs first d) b) → from ≤ length cut → drop (first + 1) cut ≡ drop (first + 1) runs → mid ≡ take from cut ++ run_at b n k ∷ drop (last + 1) cut → now ≡ take (from + 1) mid ++ (rest ++ drop (from + 1) mid) → Between runs b n k from now

@@ -1,16 +1,17 @@
-use Rattle.std.proofs.Common.{◌≡◌, ℕ, zero, suc, ◌+◌, ◌<◌, ◌≤◌, Bool, true, false, not, ◌==◌, nat_lt, List, [], ◌∷◌, ◌++◌, length, take, refl, sym, ◌∙◌, ap, subst, arith, length-append}
-use Rattle.std.proofs.lemmas.Bool.{and_parts, eqb-true, ltb-true, not-true}
-use Rattle.std.proofs.lemmas.List.{append_cancel_left, take_at}
+use Rattle.std.proofs.Common.{◌≡◌, ℕ, zero, suc, ◌+◌, ◌-◌, ◌<◌, ◌≤◌, true, false, not, ◌==◌, nat_lt, nat_le, List, [], ◌∷◌, ◌++◌, length, take, drop, get_or, inl, inr, refl, sym, ◌∙◌, ap, subst, arith}
+use Rattle.std.proofs.lemmas.Bool.{and_from, and_parts, and_right, cases_lt, cond-false, cond-true, eqb-true, le-leb, le-ltb, lt-ltb, ltb-true, not-true}
+use Rattle.std.proofs.lemmas.List.{append_cancel_left, get_or-append_right, get_or_append_left, take_at}
 use Rattle.io_model.specs.Fitting.{could_be_joined, is_merged_from}
-use Rattle.io_model.specs.Kinds.{kind_after}
+use Rattle.io_model.specs.Kinds.{covers, kind_after, kind_at}
 use Rattle.io_model.specs.declared.file.Extent.{Extent}
 use Rattle.io_model.specs.declared.file.Kind.{Kind}
+use Rattle.io_model.specs.declared.file.Kind.TheVariants.{Hole}
 use Rattle.extent_map.specs.Expansion.{kinds_of, run_of}
 use Rattle.extent_map.specs.Keeping.{goes_on}
-use Rattle.extent_map.specs.Longest.{begins}
-use Rattle.extent_map.specs.Merged.{IsMergedList, MergedListIsUnique}
+use Rattle.extent_map.specs.Longest.{LookupIsUnique, begins}
+use Rattle.extent_map.specs.Merged.{MergedListIsUnique, MergedListSaysTheKinds}
 use Rattle.extent_map.specs.Splicing.{run_at}
-use Rattle.extent_map.proofs.Following.{length-kinds_of, length-run_of}
+use Rattle.extent_map.proofs.Following.{kind_after-after, kind_after-zero, length-kinds_of, length-run_of}
 use Rattle.extent_map.proofs.Looking.{begins_run, longest_run}
 
 -- one extent of a merged list
@@ -69,3 +70,52 @@ one_list a (e ∷ xs) (f ∷ ys) s t h =
 pub merged_unique : MergedListIsUnique
 merged_unique kinds xs ys p q =
     one_list 0 xs ys (steps_of 0 (length kinds) xs p.merged) (steps_of 0 (length kinds) ys q.merged) (p.kinds_are ∙ sym q.kinds_are)
+
+first_of_run : (k x : Kind) (n : ℕ) → 0 < n → run_of k n ≡ run_of x n → k ≡ x
+first_of_run k x zero p e = absurd (omega arith)
+first_of_run k x (suc n) p e = cc
+
+pub lookup_unique : LookupIsUnique
+lookup_unique kinds b max e f p q =
+    let less : e.length ≤ f.length = q.longest e.kind e.length p.cut p.run in
+    let more : f.length ≤ e.length = p.longest f.kind f.length q.cut q.run in
+    let long : e.length ≡ f.length = omega arith in
+    let runs : run_of e.kind e.length ≡ run_of f.kind e.length =
+    sym p.run ∙ ap (λ n. take n (drop b kinds)) long ∙ q.run ∙ ap (run_of f.kind) (sym long) in
+    same_extent e.block f.block e.length f.length e.kind f.kind (p.block ∙ sym q.block) long (first_of_run e.kind f.kind e.length p.some runs)
+
+-- a block of a run
+get_run : (k : Kind) (n i : ℕ) → i < n → get_or (run_of k n) i Hole ≡ kind_after k i
+get_run k zero i h = absurd (omega arith)
+get_run k (suc n) zero h = sym (kind_after-zero k)
+get_run k (suc n) (suc i) h =
+    let step : 1 + i ≡ suc i = omega arith in get_run (kind_after k 1) n i (omega arith) ∙ kind_after-after k 1 i ∙ ap (kind_after k) step
+
+says : (a : ℕ) (es : List Extent) (x : ℕ) → Steps a es → x < length (kinds_of es) → kind_at es (a + x) ≡ get_or (kinds_of es) x Hole
+says a [] x s h = absurd (omega arith)
+says a (e ∷ es) x s h =
+    elim (cases_lt x e.length) [
+      | inl inside ↦
+          (let n : a + x - e.block ≡ x = omega (arith, s.0.at) in
+          let has : covers e (a + x) ≡ true =
+          and_from (nat_le e.block (a + x)) _ (le-leb e.block (a + x) (omega (arith, s.0.at))) (lt-ltb (a + x) (e.block + e.length) (omega (arith, s.0.at))) in
+          cond-true (covers e (a + x)) (kind_after e.kind (a + x - e.block)) (kind_at es (a + x)) has
+          ∙ ap (kind_after e.kind) n
+          ∙ sym (get_run e.kind e.length x inside)
+          ∙ sym (get_or_append_left (run_of e.kind e.length) (kinds_of es) Hole x (omega (arith, length-run_of e.kind e.length))))
+      | inr past ↦
+          (let n : a + x ≡ a + e.length + (x - e.length) = omega arith in
+          let lacks : covers e (a + x) ≡ false =
+          and_right (nat_le e.block (a + x)) _ (le-ltb (a + x) (e.block + e.length) (omega (arith, s.0.at))) in
+          cond-false (covers e (a + x)) (kind_after e.kind (a + x - e.block)) (kind_at es (a + x)) lacks
+          ∙ ap (kind_at es) n
+          ∙ says (a + e.length) es (x - e.length) s.1 (omega (arith, length-kinds_of e es))
+          ∙ sym (get_or-append_right (run_of e.kind e.length) (kinds_of es) e.length x Hole (length-run_of e.kind e.length) past))
+    ]
+
+pub merged_says : MergedListSaysTheKinds
+merged_says kinds extents m b h =
+    let n : 0 + b ≡ b = omega arith in
+    ap (kind_at extents) (sym n)
+    ∙ says 0 extents b (steps_of 0 (length kinds) extents m.merged) (omega (arith, ap length m.kinds_are))
+    ∙ ap (λ l. get_or l b Hole) m.kinds_are

@@ -1,15 +1,14 @@
-use Rattle.std.proofs.Common.{◌≡◌, ℕ, zero, suc, ◌+◌, ◌-◌, ◌<◌, ◌≤◌, Bool, true, false, List, [], ◌∷◌, ◌++◌, length, take, drop, set, get_or, min, refl, sym, ◌∙◌, ap, subst, arith, add-zero, add-one, append_assoc, length-append, length-take, length-drop}
-use Rattle.std.specs.Prelude.{replicate}
+use Rattle.std.proofs.Common.{◌≡◌, ℕ, ◌+◌, ◌<◌, ◌≤◌, true, false, List, [], ◌∷◌, ◌++◌, length, take, drop, set, get_or, refl, sym, ◌∙◌, ap, subst, arith, add-zero, append_assoc, length-append, length-take, length-drop}
 use Rattle.std.proofs.lemmas.List.{append-nil, drop-drop, drop_more, length-take-le, set_at, take-append-drop, take_all, take_at, take_more}
 use Rattle.io_model.specs.Fitting.{could_be_joined}
-use Rattle.io_model.specs.Kinds.{kind_after, is_kind}
+use Rattle.io_model.specs.Kinds.{kind_after}
 use Rattle.io_model.specs.declared.file.Extent.{Extent}
 use Rattle.io_model.specs.declared.file.Kind.{Kind}
 use Rattle.extent_map.specs.BlockKinds.{with_run}
 use Rattle.extent_map.specs.Edits.{attach, glue, longer}
 use Rattle.extent_map.specs.Expansion.{NumbersFit, kinds_of, run_of}
 use Rattle.extent_map.specs.Keeping.{Apart, BeginsAt, FollowOn}
-use Rattle.extent_map.specs.Longest.{IsLongest, IsLookup, IsRunAt, begins}
+use Rattle.extent_map.specs.Longest.{IsLookup, IsRunAt, begins}
 use Rattle.extent_map.specs.Merged.{IsMergedList}
 use Rattle.extent_map.specs.Splicing.{run_at}
 use Rattle.extent_map.proofs.Following.{kinds_of-append, length-kinds_of, length-run_of, run_of-add}

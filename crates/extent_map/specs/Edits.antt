@@ -1,4 +1,4 @@
-use Rattle.std.specs.Prelude.{ℕ, zero, suc, ◌+◌, ◌-◌, ◌<◌, nat_le, List, [], ◌∷◌, if◌then◌else◌}
+use Rattle.std.specs.Prelude.{ℕ, zero, suc, ◌+◌, ◌-◌, nat_le, List, [], ◌∷◌, if◌then◌else◌}
 use Rattle.io_model.specs.Fitting.{could_be_joined}
 use Rattle.io_model.specs.Kinds.{kind_after}
 use Rattle.io_model.specs.declared.file.Extent.{Extent}

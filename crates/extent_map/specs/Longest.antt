@@ -1,4 +1,4 @@
-use Rattle.std.specs.Prelude.{◌≡◌, ℕ, ◌<◌, ◌≤◌, Bool, false, List, [], ◌∷◌, take, drop}
+use Rattle.std.specs.Prelude.{◌≡◌, ℕ, ◌≤◌, Bool, false, List, [], ◌∷◌, take, drop}
 use Rattle.io_model.specs.Kinds.{is_kind}
 use Rattle.extent_map.specs.Expansion.{run_of, NumbersFit}
 use Rattle.io_model.specs.declared.file.Extent.{Extent}
@@ -25,3 +25,7 @@ pub record IsLookup (kinds : List Kind) (b max : ℕ) (e : Extent) : Type 0 wher
 abbrev pub begins : Kind → List Kind → Bool
 begins k [] = false
 begins k (x ∷ xs) = is_kind k x
+
+-- a block of a list has one look-up
+abbrev pub LookupIsUnique : Type 0
+LookupIsUnique = (kinds : List Kind) (b max : ℕ) (e f : Extent) → IsLookup kinds b max e → IsLookup kinds b max f → e ≡ f

@@ -1,4 +1,6 @@
-use Rattle.std.specs.Prelude.{◌≡◌, List, length, IsTrue}
+use Rattle.std.specs.Prelude.{◌≡◌, ℕ, ◌<◌, List, length, IsTrue}
+use Rattle.extent_map.specs.BlockKinds.{kind_of_block}
+use Rattle.io_model.specs.Kinds.{kind_at}
 use Rattle.extent_map.specs.Expansion.{kinds_of}
 use Rattle.io_model.specs.Fitting.{is_merged_from}
 use Rattle.io_model.specs.declared.file.Extent.{Extent}
@@ -12,3 +14,8 @@ pub record IsMergedList (kinds : List Kind) (extents : List Extent) : Type 0 whe
 -- one list of kinds has one merged list
 abbrev pub MergedListIsUnique : Type 0
 MergedListIsUnique = (kinds : List Kind) (xs ys : List Extent) → IsMergedList kinds xs → IsMergedList kinds ys → xs ≡ ys
+
+-- a merged list gives each block its kind
+abbrev pub MergedListSaysTheKinds : Type 0
+MergedListSaysTheKinds =
+    (kinds : List Kind) (extents : List Extent) → IsMergedList kinds extents → (b : ℕ) → b < length kinds → kind_at extents b ≡ kind_of_block kinds b

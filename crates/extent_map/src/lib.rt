@@ -11,6 +11,6 @@ mod seek;
 mod walk;
 
 pub use io_model::{Extent, Kind};
-pub use laws::merged_list_is_unique;
+pub use laws::{lookup_is_unique, merged_list_is_unique, merged_list_says_the_kinds};
 pub use map::ExtentMap;
 pub use plain::PlainMap;

@@ -1,4 +1,4 @@
-use Rattle.std.proofs.Common.{◌≡◌, ◌∙◌, sym, arith}
+use Rattle.std.proofs.Common.{◌∙◌, sym, arith}
 use Rattle.extent_map.proofs.Joining.{are_joined, joined_past, not_joined, read_short}
 use Rattle.extent_map.proofs.edit.join.Goals as goal
 

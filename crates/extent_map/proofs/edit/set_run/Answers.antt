@@ -1,5 +1,4 @@
-use Rattle.std.proofs.Common.{◌≡◌, subst, sym}
-use Rattle.extent_map.proofs.Setting.{Put, glued_short, joined_after, put_after, put_short}
+use Rattle.extent_map.proofs.Setting.{glued_short, joined_after, put_after, put_short}
 use Rattle.extent_map.specs.Splicing.{run_at}
 use Rattle.extent_map.proofs.edit.set_run.Goals as goal
 

@@ -1,8 +1,6 @@
-use Rattle.std.proofs.Common.{◌≡◌, ◌+◌, ◌-◌, ◌≤◌, ◌∙◌, length, List, subst, sym, arith}
+use Rattle.std.proofs.Common.{◌+◌, ◌-◌, arith}
 use Rattle.std.specs.Option.{option_to_list}
-use Rattle.io_model.specs.declared.file.Extent.{Extent}
-use Rattle.extent_map.specs.Keeping.{LiesIn}
-use Rattle.extent_map.proofs.Following.{ReadAt, read_at}
+use Rattle.extent_map.proofs.Following.{read_at}
 use Rattle.extent_map.proofs.Setting.{between, lies_in, places_in_order}
 use Rattle.extent_map.proofs.edit.splice.Goals as goal
 

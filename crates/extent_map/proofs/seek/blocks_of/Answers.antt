@@ -1,4 +1,4 @@
-use Rattle.std.proofs.Common.{◌≡◌, arith}
+use Rattle.std.proofs.Common.{arith}
 use Rattle.extent_map.proofs.Following.{no_extent}
 use Rattle.extent_map.proofs.Seeking.{end_of_last}
 use Rattle.extent_map.proofs.seek.blocks_of.Goals as goal

@@ -1,4 +1,4 @@
-use Rattle.std.proofs.Common.{◌≡◌, ◌+◌, ◌<◌, ◌∙◌, length, sym, arith}
+use Rattle.std.proofs.Common.{◌∙◌, sym, arith}
 use Rattle.extent_map.proofs.Following.{no_extent}
 use Rattle.extent_map.proofs.Seeking.{sought_at, sought_more, sought_next}
 use Rattle.extent_map.proofs.seek.first_after.Goals as goal

@@ -1,4 +1,4 @@
-use Rattle.std.proofs.Common.{◌≡◌, sym}
+use Rattle.std.proofs.Common.{sym}
 use Rattle.extent_map.proofs.Following.{no_extent}
 use Rattle.extent_map.proofs.Seeking.{sought_here}
 use Rattle.extent_map.proofs.seek.first_from.Goals as goal

@@ -1,4 +1,4 @@
-use Rattle.std.proofs.Common.{◌≡◌, ◌∙◌, ap, length, sym, arith}
+use Rattle.std.proofs.Common.{ap, length, sym, arith}
 use Rattle.extent_map.specs.Expansion.{kinds_of}
 use Rattle.extent_map.specs.Splicing.{run_at}
 use Rattle.extent_map.proofs.Walking.{block_added, block_joined, last_short}

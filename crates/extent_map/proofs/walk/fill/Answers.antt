@@ -1,4 +1,4 @@
-use Rattle.std.proofs.Common.{◌≡◌, ◌+◌, ◌∙◌, ap, set, arith}
+use Rattle.std.proofs.Common.{◌+◌, ◌∙◌, ap, set, arith}
 use Rattle.extent_map.proofs.Walking.{filled_more}
 use Rattle.extent_map.proofs.walk.fill.Goals as goal
 

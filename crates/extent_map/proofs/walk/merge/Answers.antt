@@ -1,9 +1,6 @@
-use Rattle.std.proofs.Common.{◌≡◌, ◌∙◌, ap, subst, sym, arith}
-use Rattle.io_model.specs.declared.file.Kind.{Kind}
+use Rattle.std.proofs.Common.{arith}
 use Rattle.io_model.specs.declared.file.Kind.TheVariants.{Hole}
-use Rattle.extent_map.specs.Expansion.{NumbersFit}
-use Rattle.extent_map.specs.Splicing.{run_at}
-use Rattle.extent_map.proofs.Walking.{merging_all, merging_long, merging_more}
+use Rattle.extent_map.proofs.Walking.{merging_all, merging_more}
 use Rattle.extent_map.proofs.walk.merge.Goals as goal
 
 pub loop-i-preserved : goal.loop-i-preserved

@@ -1,8 +1,8 @@
-use Rattle.std.proofs.Common.{◌≡◌, ◌∙◌, ap, subst, sym, arith}
+use Rattle.std.proofs.Common.{subst, sym, arith}
 use Rattle.io_model.specs.declared.file.Kind.{Kind}
 use Rattle.io_model.specs.declared.file.Kind.TheVariants.{Hole}
 use Rattle.extent_map.specs.Longest.{IsRunAt}
-use Rattle.extent_map.proofs.Walking.{run_cut, run_ends, run_more, run_one, run_within}
+use Rattle.extent_map.proofs.Walking.{run_ends, run_more, run_one, run_within}
 use Rattle.extent_map.proofs.walk.run_from.Goals as goal
 
 pub loop-n-init : goal.loop-n-init

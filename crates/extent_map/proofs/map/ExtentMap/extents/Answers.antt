@@ -1,4 +1,4 @@
-use Rattle.std.proofs.Common.{◌≡◌, ◌∙◌, ap}
+use Rattle.std.proofs.Common.{◌∙◌, ap}
 use Rattle.extent_map.proofs.Merged.{merged_copy}
 use Rattle.extent_map.proofs.map.ExtentMap.extents.Goals as goal
 

@@ -1,4 +1,4 @@
-use Rattle.std.proofs.Common.{◌≡◌, ◌∙◌, ap, drop, length, subst, IfNone, IfSome}
+use Rattle.std.proofs.Common.{◌∙◌, ap, drop, length, subst, IfNone, IfSome}
 use Rattle.std.specs.List.{position_from}
 use Rattle.extent_map.specs.BlockKinds.{BlockKinds}
 use Rattle.extent_map.specs.Expansion.{kinds_of}
