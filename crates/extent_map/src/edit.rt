@@ -4,7 +4,7 @@ ghost use Rattle.std.specs.Option.{option_to_list};
 ghost use Rattle.extent_map.specs.BlockKinds.{with_run};
 ghost use Rattle.extent_map.specs.Edits.{attach, below_list, joined_at, rest_list};
 ghost use Rattle.extent_map.specs.Expansion.{NumbersFit, kinds_of};
-ghost use Rattle.extent_map.specs.Keeping.{FollowOn, IsKept};
+ghost use Rattle.extent_map.specs.Keeping.{IsKept};
 ghost use Rattle.extent_map.specs.Splicing.{Between};
 
 use crate::kind::{can_join, nth_kind};

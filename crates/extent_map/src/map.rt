@@ -1,7 +1,7 @@
 //! The map and its calls.
 ghost use Rattle.std.specs.Prelude.{◌≡◌, ◌+◌, ◌<◌, ◌≤◌, IfOk, IfSome, IfNone, OnOk, OnErr, length, replicate};
 ghost use Rattle.extent_map.specs.BlockKinds.{with_run};
-ghost use Rattle.extent_map.specs.Expansion.{NumbersFit, run_of};
+ghost use Rattle.extent_map.specs.Expansion.{NumbersFit};
 ghost use Rattle.extent_map.specs.Longest.{IsLookup};
 ghost use Rattle.extent_map.specs.Merged.{IsMergedList};
 ghost use Rattle.extent_map.specs.Sorts.{IsLeastFrom, NoneBetween, is_data, is_hole};

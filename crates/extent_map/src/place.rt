@@ -1,6 +1,6 @@
 //! The run that has a block.
-ghost use Rattle.std.specs.Prelude.{◌≡◌, ◌<◌, ◌≤◌, length};
-ghost use Rattle.extent_map.specs.Expansion.{kinds_of, NumbersFit};
+ghost use Rattle.std.specs.Prelude.{◌<◌, ◌≤◌, length};
+ghost use Rattle.extent_map.specs.Expansion.{kinds_of};
 ghost use Rattle.extent_map.specs.Keeping.{Apart, FollowOn, LiesIn};
 ghost use Rattle.extent_map.specs.Longest.{IsLookup};
 
