@@ -15,6 +15,10 @@ is_data k = not (is_hole k)
 abbrev pub NoneBetween : (Kind → Bool) → List Kind → ℕ → ℕ → Type 0
 NoneBetween sort kinds b end = (y : ℕ) → b ≤ y → y < end → IsTrue (not (sort (kind_of_block kinds y)))
 
+-- no block of the list, at or after b, is of the sort
+abbrev pub NoneFrom : (Kind → Bool) → List Kind → ℕ → Type 0
+NoneFrom sort kinds b = NoneBetween sort kinds b (length kinds)
+
 -- x is the least block of the list, at or after b, whose kind is of the sort
 pub record IsLeastFrom (sort : Kind → Bool) (kinds : List Kind) (b x : ℕ) : Type 0 where
   pub from : b ≤ x

@@ -1,5 +1,5 @@
 //! Changes of the runs of a map, in place.
-ghost use Rattle.std.specs.Prelude.{◌≡◌, ◌+◌, ◌-◌, ◌<◌, ◌≤◌, ◌^◌, ◌∷◌, ◌++◌, drop, insert, length, slice_index_or, take, vec_capacity, vec_len};
+ghost use Rattle.std.specs.Prelude.{◌≡◌, ◌+◌, ◌<◌, ◌≤◌, ◌^◌, ◌∷◌, ◌++◌, drop, insert, length, slice_index_or, take, vec_capacity, vec_len};
 ghost use Rattle.std.specs.Option.{option_to_list};
 ghost use Rattle.extent_map.specs.BlockKinds.{with_run};
 ghost use Rattle.extent_map.specs.Edits.{attach, below_list, joined_at, rest_list};
@@ -74,7 +74,8 @@ fn rest_above(run: Extent, b: u64) -> Option<Extent>
 /// if nothing is left of it.
 fn cut_below(runs: &mut Vec<Extent>, at: usize, b: u64) -> usize
     requires { at < vec_len runs.old }
-    ensures front { (d : Extent) → take result runs.new.items ≡ take at runs.old.items ++ below_list (slice_index_or runs.old.items at d) b }
+    ensures front { (d : Extent) → take result runs.new.items
+        ≡ take at runs.old.items ++ below_list (slice_index_or runs.old.items at d) b }
     ensures back { drop (at + 1) runs.new.items ≡ drop (at + 1) runs.old.items }
     ensures place { result ≤ at + 1 }
     ensures len { vec_len runs.new ≡ vec_len runs.old }
@@ -111,7 +112,8 @@ fn replace(runs: &mut Vec<Extent>, from: usize, to: usize, run: Extent)
 fn put_rest(runs: &mut Vec<Extent>, at: usize, rest: Option<Extent>)
     requires within { at ≤ vec_len runs.old }
     requires room { vec_len runs.old < vec_capacity runs.old }
-    ensures items { runs.new.items ≡ take at runs.old.items ++ (option_to_list rest ++ drop at runs.old.items) }
+    ensures items { runs.new.items
+        ≡ take at runs.old.items ++ (option_to_list rest ++ drop at runs.old.items) }
     ensures len { vec_len runs.new ≤ vec_len runs.old + 1 }
     ensures capacity { vec_capacity runs.new ≡ vec_capacity runs.old }
 {

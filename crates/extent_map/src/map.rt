@@ -4,7 +4,7 @@ ghost use Rattle.extent_map.specs.BlockKinds.{with_run};
 ghost use Rattle.extent_map.specs.Expansion.{NumbersFit};
 ghost use Rattle.extent_map.specs.Longest.{IsLookup};
 ghost use Rattle.extent_map.specs.Merged.{IsMergedList};
-ghost use Rattle.extent_map.specs.Sorts.{IsLeastFrom, NoneBetween, is_data, is_hole};
+ghost use Rattle.extent_map.specs.Sorts.{IsLeastFrom, NoneFrom, is_data, is_hole};
 ghost use Rattle.io_model.specs.declared.file.Kind.TheVariants.{Hole};
 
 use crate::edit::set_run;
@@ -31,7 +31,10 @@ impl Model for ExtentMap {
 
     ghost Value = { BlockKinds };
 
-    ghost view = { λ m. record { kinds = kinds_of m.runs.items; spare = vec_capacity m.runs - vec_len m.runs } };
+    ghost view = { λ m. record {
+      kinds = kinds_of m.runs.items;
+      spare = vec_capacity m.runs - vec_len m.runs;
+    } };
 
     ghost invariant = { λ m. IsKept m.runs.items };
 }
@@ -73,8 +76,8 @@ impl ExtentMap {
         self.runs.reserve(n as usize)
     }
 
-    /// Makes `n` blocks from `b` on a run of this kind, whose device numbers go on by one. All others
-    /// stay. It uses two cuts at most and takes no memory.
+    /// Makes `n` blocks from `b` on a run of this kind, whose device numbers go on by one. All
+    /// others stay. It uses two cuts at most and takes no memory.
     pub fn set(&mut self, b: u64, n: u64, kind: Kind)
         requires some { 1 ≤ n }
         requires inside { b + n ≤ length self.old.kinds }
@@ -98,7 +101,7 @@ impl ExtentMap {
     /// The least block at or after `b` that is no hole.
     pub fn next_data(&self, b: u64) -> Option<u64>
         ensures least { IfSome result (λ x. IsLeastFrom is_data self.now.kinds b x) }
-        ensures none { IfNone result (NoneBetween is_data self.now.kinds b (length self.now.kinds)) }
+        ensures none { IfNone result (NoneFrom is_data self.now.kinds b) }
     {
         first_from(&self.runs, false, b)
     }
@@ -106,7 +109,7 @@ impl ExtentMap {
     /// The least block at or after `b` that is a hole.
     pub fn next_hole(&self, b: u64) -> Option<u64>
         ensures least { IfSome result (λ x. IsLeastFrom is_hole self.now.kinds b x) }
-        ensures none { IfNone result (NoneBetween is_hole self.now.kinds b (length self.now.kinds)) }
+        ensures none { IfNone result (NoneFrom is_hole self.now.kinds b) }
     {
         first_from(&self.runs, true, b)
     }

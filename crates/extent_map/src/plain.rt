@@ -4,7 +4,7 @@ ghost use Rattle.extent_map.specs.BlockKinds.{with_run};
 ghost use Rattle.extent_map.specs.Expansion.{NumbersFit};
 ghost use Rattle.extent_map.specs.Longest.{IsLookup};
 ghost use Rattle.extent_map.specs.Merged.{IsMergedList};
-ghost use Rattle.extent_map.specs.Sorts.{IsLeastFrom, NoneBetween, is_data, is_hole};
+ghost use Rattle.extent_map.specs.Sorts.{IsLeastFrom, NoneFrom, is_data, is_hole};
 ghost use Rattle.io_model.specs.declared.file.Kind.TheVariants.{Hole};
 
 use crate::walk::{fill, holes, merge, next_of_sort, run_from};
@@ -47,7 +47,7 @@ impl PlainMap {
         run_from(&self.kinds, b, max)
     }
 
-    /// Makes the spare cuts at least `n`. It finds memory always.
+    /// Makes the spare cuts at least `n`. It takes no memory.
     pub fn reserve_cuts(&mut self, n: u64) -> Result<(), AllocError>
         ensures kinds { self.new.kinds ≡ self.old.kinds }
         ensures kept { self.old.spare ≤ self.new.spare }
@@ -58,8 +58,8 @@ impl PlainMap {
         Ok(())
     }
 
-    /// Makes `n` blocks from `b` on a run of this kind, whose device numbers go on by one. All others
-    /// stay. It uses two cuts.
+    /// Makes `n` blocks from `b` on a run of this kind, whose device numbers go on by one. All
+    /// others stay. It uses two cuts.
     pub fn set(&mut self, b: u64, n: u64, kind: Kind)
         requires some { 1 ≤ n }
         requires inside { b + n ≤ length self.old.kinds }
@@ -83,7 +83,7 @@ impl PlainMap {
     /// The least block at or after `b` that is no hole.
     pub fn next_data(&self, b: u64) -> Option<u64>
         ensures least { IfSome result (λ x. IsLeastFrom is_data self.now.kinds b x) }
-        ensures none { IfNone result (NoneBetween is_data self.now.kinds b (length self.now.kinds)) }
+        ensures none { IfNone result (NoneFrom is_data self.now.kinds b) }
     {
         next_of_sort(&self.kinds, false, b)
     }
@@ -91,7 +91,7 @@ impl PlainMap {
     /// The least block at or after `b` that is a hole.
     pub fn next_hole(&self, b: u64) -> Option<u64>
         ensures least { IfSome result (λ x. IsLeastFrom is_hole self.now.kinds b x) }
-        ensures none { IfNone result (NoneBetween is_hole self.now.kinds b (length self.now.kinds)) }
+        ensures none { IfNone result (NoneFrom is_hole self.now.kinds b) }
     {
         next_of_sort(&self.kinds, true, b)
     }

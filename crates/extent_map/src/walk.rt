@@ -7,7 +7,7 @@ ghost use Rattle.extent_map.specs.Expansion.{NumbersFit, kinds_of};
 ghost use Rattle.extent_map.specs.Longest.{IsLookup, begins};
 ghost use Rattle.extent_map.specs.Merged.{IsMergedList};
 ghost use Rattle.extent_map.specs.Sorts as sorts;
-ghost use Rattle.extent_map.specs.Sorts.{IsLeastFrom, NoneBetween};
+ghost use Rattle.extent_map.specs.Sorts.{IsLeastFrom, NoneFrom};
 ghost use Rattle.extent_map.specs.Splicing.{run_at};
 ghost use Rattle.io_model.specs.Kinds.{kind_after};
 ghost use Rattle.io_model.specs.declared.file.Kind.TheVariants.{Hole};
@@ -112,7 +112,8 @@ pub(crate) fn merge(alloc: Global, kinds: &[Kind]) -> Result<Vec<Extent>, AllocE
 fn add_block(extents: &mut Vec<Extent>, block: u64, kind: Kind) -> Result<(), AllocError>
     requires all { length (kinds_of extents.old.items) ≤ block }
     requires bound { block + 1 < 2 ^ 64 }
-    ensures { OnOk result (extents.new.items ≡ attach extents.old.items (run_at block 1 kind ∷ [])) }
+    ensures { OnOk result
+        (extents.new.items ≡ attach extents.old.items (run_at block 1 kind ∷ [])) }
 {
     let one = Extent {
         block,
@@ -136,7 +137,7 @@ fn add_block(extents: &mut Vec<Extent>, block: u64, kind: Kind) -> Result<(), Al
 /// The least block at or after `b` that is a hole, or for false the least that is none.
 pub(crate) fn next_of_sort(kinds: &[Kind], hole: bool, b: u64) -> Option<u64>
     ensures least { IfSome result (λ x. IsLeastFrom (sorts.is_sort hole) kinds.now b x) }
-    ensures none { IfNone result (NoneBetween (sorts.is_sort hole) kinds.now b (length kinds.now)) }
+    ensures none { IfNone result (NoneFrom (sorts.is_sort hole) kinds.now b) }
 {
     for x in b..kinds.len() as u64 {
         if is_sort(hole, kinds[x as usize]) {

@@ -1,5 +1,5 @@
 //! The extent map: a map worked out by hand, the plain map beside it, and a large one.
-ghost use Rattle.std.specs.Prelude.{◌≡◌, ◌+◌, ◌*◌, ◌<◌, ◌≤◌, ℕ, IfOk, length};
+ghost use Rattle.std.specs.Prelude.{◌≡◌, ◌<◌, ◌≤◌, ℕ, IfOk, length};
 ghost use Rattle.extent_map.specs.Expansion.{NumbersFit};
 
 use extent_map::{
