@@ -94,7 +94,7 @@ fn kind_from(x: u64) -> Kind
     }
 }
 
-// Both maps answer alike from this block on.
+// Both maps answer alike at this block, and have the same extents.
 fn expect_alike(
     rt: &(impl Abort + AllocGlobal),
     map: &ExtentMap,
