@@ -4,6 +4,8 @@
 #[cfg(test)]
 mod locks;
 #[cfg(test)]
+mod maps;
+#[cfg(test)]
 mod replays;
 #[cfg(test)]
 mod turns;

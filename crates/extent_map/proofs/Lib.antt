@@ -1,0 +1,9 @@
+pub mod Following
+pub mod Joining
+pub mod Looking
+pub mod Merged
+pub mod Seeking
+pub mod Setting
+pub mod Unique
+pub mod Walking
+pub mod Whole
