@@ -2,12 +2,10 @@
 //! nothing to the standard error. The exit status is that of `iomap_replay::replay`.
 #![tactic(auto)]
 
-ghost use Rattle.std.specs.Prelude.{◌≡◌, length, IfOk};
-
 use fault_device::{Fate, Listed};
 use iob_base::{Status, StdSink, StdSource};
 use iomap_replay::replay;
-use std::alloc::{AllocError, Global};
+use std::alloc::AllocError;
 use std::process::ExitCode;
 use std::{env, io};
 
@@ -18,17 +16,6 @@ const NO_MEMORY: Status = Status(5);
 
 // How many lanes there are: one for each caller, and that of the closing sync.
 const LANES: usize = 17;
-
-// The fates of the lanes, by which no transfer fails.
-fn fates(alloc: Global) -> Result<Vec<Box<dyn Fate + Send>>, AllocError>
-    ensures { IfOk result (λ fates. length fates.items ≡ 17) }
-{
-    let mut fates: Vec<Box<dyn Fate + Send>> = Vec::with_capacity(alloc, LANES)?;
-    for _ in 0..LANES {
-        fates.push(Box::new(alloc, Listed::new(alloc))?)?;
-    }
-    Ok(fates)
-}
 
 // The words of the command, without the program's name.
 fn words(rt: &HostRuntime) -> Result<Vec<String>, Status> {
@@ -42,32 +29,23 @@ fn words(rt: &HostRuntime) -> Result<Vec<String>, Status> {
     }
 }
 
-// What a replay begins with.
-struct Given {
-    words: Vec<String>,
-    fates: Vec<Box<dyn Fate + Send>>,
-}
-
-// The words and the fates, or the status of what hinders them.
-fn prepare(rt: &HostRuntime) -> Result<Given, Status>
-    ensures { IfOk result (λ given. length given.fates.items ≡ 17) }
-{
-    let words = words(rt)?;
-    match fates(rt.alloc()) {
-        Ok(fates) => Ok(Given { words, fates }),
-        Err(_) => Err(NO_MEMORY),
-    }
-}
-
-// Replays the standard input. Only `main` itself is given leave to wait.
+// Replays the standard input. The fates, by which no transfer fails, are made here and handed over.
 fn main(rt: HostRuntime) -> ExitCode {
-    let status = match prepare(&rt) {
-        Err(status) => status,
-        Ok(Given { words, fates }) => {
-            let mut source = StdSource::new(rt.reader());
-            let mut sink = StdSink::new(io::writer(&rt));
-            replay(&rt, rt.alloc(), &words, &mut source, &mut sink, fates)
-        }
+    let alloc = rt.alloc();
+    let words = match words(&rt) {
+        Ok(words) => words,
+        Err(status) => return ExitCode::from(status.0),
     };
-    ExitCode::from(status.0)
+    let mut fates: Vec<Box<dyn Fate + Send>> = Vec::new(alloc);
+    for _ in 0..LANES {
+        let Ok(fate) = Box::new(alloc, Listed::new(alloc)) else {
+            return ExitCode::from(NO_MEMORY.0);
+        };
+        if fates.push(fate).is_err() {
+            return ExitCode::from(NO_MEMORY.0);
+        }
+    }
+    let mut source = StdSource::new(rt.reader());
+    let mut sink = StdSink::new(io::writer(&rt));
+    ExitCode::from(replay(&rt, alloc, &words, &mut source, &mut sink, fates).0)
 }

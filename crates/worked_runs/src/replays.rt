@@ -1,5 +1,4 @@
 //! Replays of whole scripts: runs that are worked out by hand, and what hinders a run.
-ghost use Rattle.std.specs.Prelude.{◌≡◌, length, IfOk};
 
 use fault_device::{Fate, Listed};
 use iob_base::{MemSink, MemSource};
@@ -105,18 +104,6 @@ fn armed(alloc: Global, failing: &[u64]) -> Result<Listed, AllocError> {
     Ok(fate)
 }
 
-// Seventeen fates: by the first these transfers fail, and by the others none.
-fn fates(alloc: Global, failing: &[u64]) -> Result<Vec<Box<dyn Fate + Send>>, AllocError>
-    ensures { IfOk result (λ fates. length fates.items ≡ 17) }
-{
-    let mut fates: Vec<Box<dyn Fate + Send>> = Vec::with_capacity(alloc, LANES)?;
-    fates.push(Box::new(alloc, armed(alloc, failing)?)?)?;
-    for _ in 1..LANES {
-        fates.push(Box::new(alloc, Listed::new(alloc))?)?;
-    }
-    Ok(fates)
-}
-
 #[test]
 fn rows_are_replayed(rt: HostRuntime) -> Result<(), Fail> {
     let alloc = rt.alloc();
@@ -125,19 +112,18 @@ fn rows_are_replayed(rt: HostRuntime) -> Result<(), Fail> {
         for word in row.words {
             words.push(String::from_str(alloc, word)?)?;
         }
+        // By the first of the fates the row's transfers fail, and by the others none.
+        let mut fates: Vec<Box<dyn Fate + Send>> = Vec::new(alloc);
+        fates.push(Box::new(alloc, armed(alloc, row.transfers_fail)?)?)?;
+        for _ in 1..LANES {
+            fates.push(Box::new(alloc, Listed::new(alloc))?)?;
+        }
         let mut source = MemSource::new(
             Vec::from_slice(alloc, row.script)?,
             Vec::from_slice(alloc, row.source_fails)?,
         );
         let mut sink = MemSink::new(alloc, Vec::from_slice(alloc, row.sink_fails)?);
-        let status = replay(
-            &rt,
-            alloc,
-            &words,
-            &mut source,
-            &mut sink,
-            fates(alloc, row.transfers_fail)?,
-        );
+        let status = replay(&rt, alloc, &words, &mut source, &mut sink, fates);
         assert_eq!(rt; status.0, row.status);
         assert_eq!(rt; sink.bytes(), row.written);
     }
