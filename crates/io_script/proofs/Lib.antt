@@ -3,3 +3,4 @@ pub mod Digits
 pub mod Ended
 pub mod Extents
 pub mod Runs
+pub mod Reading

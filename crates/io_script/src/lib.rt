@@ -5,9 +5,11 @@ mod calls;
 mod files;
 mod hexadecimal;
 mod image;
+mod one_reading;
 mod pages;
 mod pieces;
 mod reply;
 mod run;
 
+pub use one_reading::text_has_one_reading;
 pub use run::print_run;

@@ -1,0 +1,15 @@
+//! The law that a printed text has one reading.
+ghost use Rattle.std.specs.Prelude.{Bool};
+ghost use Rattle.io_model.specs.Fitting.{Fits};
+ghost use Rattle.io_model.specs.declared.run.Run.{Run};
+ghost use Rattle.io_model.specs.declared.script.Script.{Script};
+ghost use Rattle.io_script.specs.Ranges.{IsRunInRange};
+ghost use Rattle.io_script.specs.Reading.{IsLegible, HasOneReading};
+
+/// Two runs of one script that print the same text, with the image or without it, are the same in
+/// all that the text tells: replies, bytes read, pages, journals, extents, dirty bytes, counts,
+/// lanes, and with the image the bytes of the mapped blocks.
+pub fn text_has_one_reading()
+    ensures { (script : Script) (image : Bool) (one other : Run) → IsLegible script → Fits script one → Fits script other → IsRunInRange one → IsRunInRange other
+        → HasOneReading script image one other }
+{}
