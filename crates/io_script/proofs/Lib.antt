@@ -3,4 +3,5 @@ pub mod Digits
 pub mod Ended
 pub mod Extents
 pub mod Runs
+pub mod Items
 pub mod Reading

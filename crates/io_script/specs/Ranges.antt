@@ -19,6 +19,7 @@ use Rattle.io_model.specs.declared.file.Kind.TheVariants.{Hole, Delalloc, Unwrit
 use Rattle.io_model.specs.declared.run.CallEnd.{CallEnd}
 use Rattle.io_model.specs.declared.run.LaneEnd.{LaneEnd}
 use Rattle.io_model.specs.declared.run.Run.{Run}
+use Rattle.io_model.specs.declared.script.Script.{Script}
 
 -- a number of 64 bits
 abbrev pub IsWord : ℕ → Type 0
@@ -83,3 +84,7 @@ pub record IsRunInRange (run : Run) : Type 0 where
   pub files : All IsFileInRange run.ends.files
   pub free : IsWord (length run.ends.free)
   pub lanes : All IsLaneInRange run.lanes
+
+-- the first page of each call of a script is a number of 64 bits, as every script's are by its types
+abbrev pub IsScriptInRange : Script → Type 0
+IsScriptInRange script = All (λ call. IsWord call.first_page) script.calls

@@ -9,8 +9,8 @@ use Rattle.io_model.specs.RunText.{call_lines, close_lines, files_lines, lane_li
 use Rattle.io_model.specs.declared.run.CallEnd.{CallEnd}
 use Rattle.io_model.specs.declared.run.Run.{Run}
 use Rattle.io_model.specs.declared.script.Script.{Script}
-use Rattle.io_script.specs.Ranges.{IsRunInRange}
-use Rattle.io_script.specs.Reading.{IsLegible, HasOneReading}
+use Rattle.io_script.specs.Ranges.{IsRunInRange, IsScriptInRange}
+use Rattle.io_script.specs.Reading.{NamesFiles, HasOneReading}
 use Rattle.io_script.proofs.Reading.Calls.{calls_one, closes_one}
 use Rattle.io_script.proofs.Reading.Ends.{files_one}
 use Rattle.io_script.proofs.Reading.Lanes.{lanes_one}
@@ -40,13 +40,13 @@ files_part script image run = files_lines image script.names run.ends.files (cod
 abbrev closes_part : Script → Bool → Run → List ℕ
 closes_part script image run = close_lines script.names run.closes (files_part script image run)
 
-pub one_reading : (script : Script) (image : Bool) (one other : Run) → IsLegible script → Fits script one → Fits script other → IsRunInRange one → IsRunInRange other → HasOneReading script image one other
-one_reading script image one other named fo ft ro rt e =
+pub one_reading : (script : Script) (image : Bool) (one other : Run) → NamesFiles script → IsScriptInRange script → Fits script one → Fits script other → IsRunInRange one → IsRunInRange other → HasOneReading script image one other
+one_reading script image one other named pages fo ft ro rt e =
     let w = and_parts (list_all (λ end. not (is_again_reply end.answer.reply)) one.calls) (list_all (λ close. not (is_again_reply close.reply)) one.closes) fo.waited in
     let v = and_parts (list_all (λ end. not (is_again_reply end.answer.reply)) other.calls) (list_all (λ close. not (is_again_reply close.reply)) other.closes) ft.waited in
     let names = eqb-true (length script.names) (length script.files) named.one_each in
     let calls = calls_one 1 script.calls one.calls other.calls (closes_part script image one) (closes_part script image other)
-    (eqb-true (length one.calls) (length script.calls) fo.calls) (eqb-true (length other.calls) (length script.calls) ft.calls) named.first_pages ro.calls rt.calls w.0 v.0
+    (eqb-true (length one.calls) (length script.calls) fo.calls) (eqb-true (length other.calls) (length script.calls) ft.calls) pages ro.calls rt.calls w.0 v.0
     (append_cancel_left (codes "run 1\n") (call_lines 1 script.calls one.calls (closes_part script image one)) (call_lines 1 script.calls other.calls (closes_part script image other)) e) in
     let closes = closes_one script.names one.closes other.closes (files_part script image one) (files_part script image other)
     (eqb-true (length one.closes) (length script.files) fo.closes ∙ sym names) (eqb-true (length other.closes) (length script.files) ft.closes ∙ sym names) ro.closes rt.closes w.1 v.1 calls.1 in
