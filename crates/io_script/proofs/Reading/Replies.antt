@@ -101,7 +101,7 @@ fault_one f g a b wf wg hf hg ha hb e =
 
 -- Stops
 
--- END by its second letter and third letter, which no fault has
+-- END by its third letter, which no fault has there
 abbrev is_end : List ℕ → Bool
 is_end t = slice_index t 9 == 68
 
