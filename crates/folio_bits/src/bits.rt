@@ -6,8 +6,8 @@ use std::marker::Model;
 
 /// The blocks of a folio that are uptodate, and those that are dirty. A folio's blocks are counted from 0.
 ///
-/// After `Documentation/filesystems/iomap/design.rst`, which keeps such bits for each folio of more than one block. To a
-/// contract it is two sets of blocks, each a list that tells of each block whether it is in the set. No call takes memory.
+/// iomap keeps such bits for the blocks of each folio, as its guide to operations says. To a contract it is two sets of
+/// blocks, each a list that tells of each block whether it is in the set. No call takes memory.
 #[derive(Drop)]
 pub struct FolioBits {
     blocks: u32,
