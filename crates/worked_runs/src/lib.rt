@@ -8,4 +8,6 @@ mod maps;
 #[cfg(test)]
 mod replays;
 #[cfg(test)]
+mod small;
+#[cfg(test)]
 mod turns;
