@@ -1,4 +1,4 @@
-use Rattle.std.proofs.Common.{◌≡◌, ℕ, zero, suc, ◌+◌, ◌-◌, ◌≤◌, ◌<◌, ◌⊎◌, inl, inr, Vec, true, List, [], ◌∷◌, ◌++◌, length, get_or, take, drop, sum, arith, refl, sym, ap, ◌∙◌, zero-add, length-append}
+use Rattle.std.proofs.Common.{◌≡◌, ℕ, suc, ◌+◌, ◌-◌, ◌≤◌, ◌<◌, ◌⊎◌, inl, inr, Vec, true, List, [], ◌∷◌, ◌++◌, length, get_or, take, drop, sum, arith, refl, sym, ap, ◌∙◌, length-append}
 use Rattle.std.proofs.lemmas.Bool.{cases_lt, le-ltb, lt-ltb}
 use Rattle.std.proofs.lemmas.List.{append-nil, drop_all, take-append-drop, take_more}
 use Rattle.std.proofs.lemmas.List.Concat.{flat_map-append}

@@ -1,8 +1,8 @@
-use Rattle.std.proofs.Common.{◌≡◌, ℕ, zero, suc, ◌+◌, ◌-◌, ◌/◌, ◌%◌, ◌≤◌, ◌<◌, ◌⊎◌, inl, inr, min, Bool, true, false, List, [], ◌∷◌, ◌++◌, length, get_or, take, drop, replicate, map, sum, arith, refl, sym, ap, ◌∙◌, subst, add-one, add-zero, zero-add, append_assoc, length-append}
-use Rattle.std.proofs.Math.Nat.{suc-add, mod-eq_of_lt, div-eq_of_lt, div-eq-sub-div, mod-eq-sub-mod, zero-div}
+use Rattle.std.proofs.Common.{◌≡◌, ℕ, zero, suc, ◌+◌, ◌-◌, ◌≤◌, ◌<◌, ◌⊎◌, inl, inr, min, Bool, false, List, [], ◌∷◌, ◌++◌, length, get_or, take, drop, replicate, sum, arith, refl, sym, ap, ◌∙◌, add-one, add-zero, append_assoc, length-append}
+use Rattle.std.proofs.Math.Nat.{mod-eq_of_lt, div-eq_of_lt, div-eq-sub-div, mod-eq-sub-mod, zero-div}
 use Rattle.std.proofs.lemmas.Bool.{cases_lt}
-use Rattle.std.proofs.lemmas.List.{append-nil, map-append, map_push, length_push, length-replicate, replicate-append-replicate, take_more, length-take-le}
-use Rattle.std.proofs.lemmas.List.Concat.{flat_map-append, flat_map-cons}
+use Rattle.std.proofs.lemmas.List.{append-nil, map_push, length_push, length-replicate, replicate-append-replicate, take_more}
+use Rattle.std.proofs.lemmas.List.Concat.{flat_map-append}
 use Rattle.std.proofs.lemmas.List.Sums.{sum_by-append}
 use Rattle.iov_iter.proofs.SpotLemmas.{split_sizes}
 use Rattle.iov_iter.specs.IovView.{PagePlace, sizes}

@@ -1,7 +1,7 @@
-use Rattle.std.proofs.Common.{◌≡◌, ℕ, zero, suc, ◌+◌, ◌-◌, ◌*◌, ◌≤◌, ◌<◌, Bool, true, false, List, [], ◌∷◌, ◌++◌, length, get_or, take, drop, map, sum, arith, refl, sym, ap, ◌∙◌, subst, add-zero, zero-add, add_assoc, append_assoc, length-append, length-drop, length-take}
+use Rattle.std.proofs.Common.{◌≡◌, ℕ, zero, suc, ◌+◌, ◌-◌, ◌*◌, ◌≤◌, ◌<◌, Bool, true, false, List, [], ◌∷◌, ◌++◌, length, get_or, take, drop, map, arith, refl, sym, ap, ◌∙◌, subst, append_assoc, length-append}
 use Rattle.std.proofs.Math.Seq.{drop-append-add}
 use Rattle.std.proofs.lemmas.Bool.{le-ltb, lt-ltb}
-use Rattle.std.proofs.lemmas.List.{append-nil, drop-drop, drop-map, drop_at, length-take-le, map-append, take-append-drop, take-map, take_at}
+use Rattle.std.proofs.lemmas.List.{drop-drop, drop-map, map-append, take-append-drop, take-map}
 use Rattle.std.proofs.lemmas.List.Concat.{flat_map-append}
 use Rattle.iob_base.specs.declared.sector.Page.{Page}
 use Rattle.iov_iter.proofs.Bytes.{length-put_at, take-append-add}

@@ -1,12 +1,12 @@
-use Rattle.std.proofs.Common.{◌≡◌, ℕ, zero, suc, ◌+◌, ◌-◌, ◌*◌, ◌≤◌, ◌<◌, ◌⊎◌, inl, inr, Bool, true, false, List, [], ◌∷◌, ◌++◌, length, get_or, set, take, drop, map, arith, refl, sym, ap, ◌∙◌, subst, add-one, zero-add, add_assoc, append_assoc, length-append, length-drop, length-take}
+use Rattle.std.proofs.Common.{◌≡◌, ℕ, zero, suc, ◌+◌, ◌*◌, ◌≤◌, ◌<◌, true, false, List, [], ◌∷◌, ◌++◌, length, get_or, set, take, drop, map, arith, refl, sym, ap, ◌∙◌, add_assoc, append_assoc, length-append, length-drop, length-take}
 use Rattle.std.proofs.Math.Seq.{drop-append-add}
-use Rattle.std.proofs.lemmas.List.{append-nil, drop_more, drop-drop, drop-map, get_or_at, get_or-drop, length-map, length-take-le, map-append, map_more, set_at, drop_at, take-append-drop, take-map, take_at}
+use Rattle.std.proofs.lemmas.List.{drop_more, drop-drop, drop-map, get_or_at, get_or-drop, length-map, map-append, map_more, set_at, drop_at, take-append-drop, take-map, take_at}
 use Rattle.std.proofs.lemmas.List.Concat.{flat_map-append}
 use Rattle.iob_base.specs.declared.sector.Page.{Page}
 use Rattle.iov_iter.proofs.Sizes.{start_within}
 use Rattle.iov_iter.specs.IovView.{PagePlace, sizes, start_in}
 use Rattle.iov_iter.specs.Moving.{AreWhole, cut_pages, marked, marked_from, page}
-use Rattle.iov_iter.specs.Runs.{AreIn, FitIn, page_in, run_mapped, slot_out}
+use Rattle.iov_iter.specs.Runs.{AreIn, page_in, run_mapped, slot_out}
 use Rattle.iov_iter.specs.Slots.{SlotView, joined, place_of, places}
 
 length_front : {A : Type 0} (f : A → A) (i n : ℕ) (xs : List A) → i + n < length xs → length (take i xs ++ map f (take n (drop i xs))) ≡ i + n

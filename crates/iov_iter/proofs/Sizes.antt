@@ -1,14 +1,12 @@
-use Rattle.std.proofs.Common.{◌≡◌, ℕ, zero, suc, ◌+◌, ◌-◌, ◌*◌, ◌/◌, ◌%◌, ◌≤◌, ◌<◌, min, List, [], ◌∷◌, ◌++◌, length, get_or, take, drop, replicate, sum, ◌⊎◌, add-zero, arith, refl, sym, ap, ◌∙◌, subst, add_assoc, zero-add, add-one, append_assoc, length-append, inl, inr}
-use Rattle.std.proofs.Math.Nat.{suc-add, mod-lt, mod-eq_of_lt, div-eq_of_lt, div-eq-sub-div, mod-eq-sub-mod, div-add-mod', div-le_self, zero-div, div-mul-le_self}
+use Rattle.std.proofs.Common.{◌≡◌, ℕ, zero, suc, ◌+◌, ◌*◌, ◌/◌, ◌%◌, ◌≤◌, ◌<◌, min, List, [], ◌∷◌, ◌++◌, length, get_or, replicate, sum, ◌⊎◌, add-zero, arith, refl, sym, ap, ◌∙◌, subst, add_assoc, zero-add, length-append, inl, inr}
+use Rattle.std.proofs.Math.Nat.{suc-add, mod-lt, div-add-mod', div-mul-le_self}
 use Rattle.std.proofs.lemmas.Bool.{cases_lt}
 use Rattle.std.proofs.lemmas.Nat.{le-div}
 use Rattle.std.proofs.lemmas.List.Sums.{sum_by-cons}
 use Rattle.std.proofs.lemmas.List.{length-replicate, get_or-replicate, get_or_append_left, get_or-append-add}
-use Rattle.std.specs.List.{flat_map}
 use Rattle.iov_iter.specs.IovView.{start_in}
 use Rattle.iov_iter.specs.Making.{page_sizes, rest_size, sizes_of}
-use Rattle.iov_iter.specs.Spots.{AreSome, Stands, byte_of}
-use Rattle.iov_iter.specs.declared.spot.Spot.{Spot}
+use Rattle.iov_iter.specs.Spots.{AreSome}
 
 pub start_next : (xs : List ℕ) (i : ℕ) → i < length xs → start_in xs (suc i) ≡ start_in xs i + get_or xs i 0
 start_next [] i h = absurd (omega arith)

@@ -1,8 +1,8 @@
-use Rattle.std.proofs.Common.{◌≡◌, ℕ, zero, suc, ◌+◌, ◌-◌, ◌/◌, ◌%◌, ◌≤◌, ◌<◌, ◌⊎◌, inl, inr, min, List, [], ◌∷◌, ◌++◌, length, get_or, take, drop, sum, arith, refl, sym, ap, ◌∙◌, subst, add-one, length-append}
+use Rattle.std.proofs.Common.{◌≡◌, ℕ, ◌+◌, ◌/◌, ◌%◌, ◌≤◌, ◌<◌, ◌⊎◌, inl, inr, min, List, ◌∷◌, ◌++◌, length, get_or, take, drop, sum, arith, refl, sym, ap, ◌∙◌, subst, add-one, length-append}
 use Rattle.std.proofs.lemmas.Bool.{cases_lt}
 use Rattle.std.proofs.lemmas.List.{drop_more, take-append-drop, take_all, get_or_append_left, get_or-append-add}
 use Rattle.std.proofs.lemmas.List.Concat.{flat_map-append}
-use Rattle.iov_iter.proofs.Sizes.{InSegment, in_segment, length_page_sizes, some_at, some_length, some_page_sizes, some_sizes, start_append, start_front, start_next, total_page_sizes, total_sizes}
+use Rattle.iov_iter.proofs.Sizes.{in_segment, length_page_sizes, some_at, some_length, some_page_sizes, some_sizes, start_append, start_front, start_next, total_page_sizes, total_sizes}
 use Rattle.iov_iter.specs.IovView.{start_in}
 use Rattle.iov_iter.specs.Making.{page_sizes, sizes_of}
 use Rattle.iov_iter.specs.Spots.{AreSome, Stands, byte_of}

@@ -1,4 +1,4 @@
-use Rattle.std.specs.Prelude.{ℕ, zero, suc, ◌+◌, ◌/◌, ◌%◌, ◌≤◌, false, List, [], ◌∷◌, ◌++◌, length, map, replicate, Vec}
+use Rattle.std.specs.Prelude.{ℕ, zero, suc, ◌/◌, ◌%◌, ◌≤◌, false, List, [], ◌∷◌, ◌++◌, length, map, replicate, Vec}
 use Rattle.std.specs.List.{flat_map}
 use Rattle.iov_iter.specs.IovView.{IovView, PagePlace}
 

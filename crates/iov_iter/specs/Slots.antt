@@ -1,4 +1,4 @@
-use Rattle.std.specs.Prelude.{ℕ, Bool, true, false, Option, Some, None, List, [], ◌∷◌, map, length, Vec}
+use Rattle.std.specs.Prelude.{ℕ, Bool, true, false, Option, Some, None, List, map, length, Vec}
 use Rattle.std.specs.List.{flat_map}
 use Rattle.iov_iter.specs.IovView.{IovView, PagePlace, put_at}
 

@@ -1,6 +1,6 @@
-use Rattle.std.proofs.Common.{◌≡◌, ◌+◌, ◌++◌, ◌≤◌, ◌<◌, ℕ, Vec, Global, List, length, take, arith, refl, sym, ap, ◌∙◌, length-append}
+use Rattle.std.proofs.Common.{◌≡◌, ◌+◌, ◌++◌, length, take, arith, sym, ap, ◌∙◌, length-append}
 use Rattle.iov_iter.specs.Home.{is_home}
-use Rattle.iov_iter.specs.IovView.{IovView, PagePlace, put_at}
+use Rattle.iov_iter.specs.IovView.{IovView, put_at}
 use Rattle.iov_iter.specs.Making.{bytes_in}
 use Rattle.iov_iter.proofs.Bytes.{length-put_at}
 use Rattle.iov_iter.proofs.Filling.{Fills, fill_more, fills}

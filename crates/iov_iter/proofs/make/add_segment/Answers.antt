@@ -1,6 +1,5 @@
-use Rattle.std.proofs.Common.{◌≡◌, ◌+◌, ◌-◌, ◌++◌, ◌≤◌, ◌^◌, ◌<◌, ℕ, List, [], ◌∷◌, length, replicate, min, arith, sym, ap, ◌∙◌, subst}
-use Rattle.iov_iter.specs.Making.{numbered, page_sizes}
-use Rattle.iov_iter.specs.Slots.{SlotView, joined, places}
+use Rattle.std.proofs.Common.{◌≡◌, List, min, arith, sym, ap, ◌∙◌, subst}
+use Rattle.iov_iter.specs.Slots.{SlotView}
 use Rattle.iov_iter.proofs.Making.{Added, add_more}
 use Rattle.iov_iter.proofs.make.add_segment.Goals as goal
 

@@ -1,7 +1,6 @@
-use Rattle.std.proofs.Common.{◌≡◌, ◌+◌, ◌++◌, ◌≤◌, ◌<◌, ℕ, List, length, replicate, sum, take, get_or, vec_len, arith, sym, ap, ◌∙◌, subst}
+use Rattle.std.proofs.Common.{◌≡◌, ◌+◌, ◌++◌, ℕ, List, length, replicate, sum, take, get_or, vec_len, arith, sym, ap, ◌∙◌}
 use Rattle.std.proofs.lemmas.List.{replicate-append-replicate}
 use Rattle.iov_iter.specs.Making.{numbered, page_sizes, sizes_of}
-use Rattle.iov_iter.specs.Slots.{joined, places}
 use Rattle.iov_iter.proofs.Making.{length_numbered, length_places, numbered_append, segment_fits, sizes_more, sum_more}
 use Rattle.iov_iter.proofs.make.zeroed_slots.Goals as goal
 

@@ -1,4 +1,4 @@
-use Rattle.std.proofs.Common.{◌≡◌, ◌+◌, ◌≤◌, ◌^◌, ◌++◌, length, replicate, sum, take}
+use Rattle.std.proofs.Common.{◌≡◌, replicate, sum, take}
 use Rattle.iov_iter.specs.Making.{numbered, sizes_of}
 use Rattle.iov_iter.specs.Slots.{joined, places}
 use Rattle.iov_iter.proofs.make.zeroed_slots.Given as goal

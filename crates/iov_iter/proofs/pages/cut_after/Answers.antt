@@ -1,4 +1,4 @@
-use Rattle.std.proofs.Common.{◌≡◌, ◌+◌, ◌++◌, ◌≤◌, ◌<◌, ℕ, List, [], ◌∷◌, length, map, take, drop, get_or, set, arith, refl, sym, ap, ◌∙◌, subst, add-zero}
+use Rattle.std.proofs.Common.{◌≡◌, ◌+◌, ◌++◌, ◌≤◌, ℕ, [], ◌∷◌, length, take, drop, get_or, arith, refl, sym, ap, ◌∙◌, subst, add-zero}
 use Rattle.std.proofs.lemmas.List.{length-take-le, map_push, take_more_set}
 use Rattle.iov_iter.specs.IovView.{PagePlace, sizes, start_in}
 use Rattle.iov_iter.specs.Slots.{SlotView, joined, place_of, places}

@@ -1,4 +1,4 @@
-use Rattle.std.proofs.Common.{◌≡◌, ◌≤◌, ◌++◌, length, take, drop}
+use Rattle.std.proofs.Common.{◌≡◌, ◌++◌, length, take, drop}
 use Rattle.iov_iter.specs.Runs.{FitIn, slots_put}
 use Rattle.iov_iter.proofs.pages.put_run.Given as goal
 

@@ -1,7 +1,7 @@
-use Rattle.std.proofs.Common.{◌≡◌, ◌+◌, ◌++◌, ◌<◌, ◌≤◌, ℕ, List, [], ◌∷◌, length, map, take, drop, get_or, set, arith, refl, sym, ap, ◌∙◌, append_assoc, length-drop}
+use Rattle.std.proofs.Common.{◌≡◌, ◌+◌, ◌++◌, ◌<◌, List, [], ◌∷◌, length, map, take, drop, get_or, set, arith, sym, ap, ◌∙◌, append_assoc, length-drop}
 use Rattle.std.proofs.lemmas.List.{get_or-drop, map_more}
 use Rattle.iob_base.specs.declared.sector.Page.{Page}
-use Rattle.iov_iter.specs.Runs.{page_in, run_mapped, slot_out}
+use Rattle.iov_iter.specs.Runs.{page_in, slot_out}
 use Rattle.iov_iter.specs.Slots.{SlotView}
 use Rattle.iov_iter.proofs.RunLemmas.{in_at, run_at, run_more, same_page}
 use Rattle.iov_iter.proofs.pages.take_run.Goals as goal

@@ -1,4 +1,4 @@
-use Rattle.std.proofs.Common.{◌≡◌, ◌+◌, ◌-◌, ◌<◌, ◌≤◌, length, take, drop, arith, length-take, length-drop}
+use Rattle.std.proofs.Common.{◌≡◌, ◌+◌, ◌-◌, ◌≤◌, length, take, drop, arith, length-take, length-drop}
 use Rattle.iov_iter.specs.IovView.{sizes}
 use Rattle.iov_iter.specs.Slots.{joined, places}
 use Rattle.iov_iter.specs.Spots.{byte_of}

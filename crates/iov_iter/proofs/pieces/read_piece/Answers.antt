@@ -1,4 +1,4 @@
-use Rattle.std.proofs.Common.{◌≡◌, ◌+◌, ◌-◌, ◌<◌, ◌≤◌, ℕ, List, ◌++◌, length, min, take, drop, get_or, arith, sym, ap, ◌∙◌, length-take}
+use Rattle.std.proofs.Common.{◌≡◌, ◌-◌, ℕ, List, ◌++◌, length, min, take, drop, get_or, arith, sym, ap, ◌∙◌, length-take}
 use Rattle.std.proofs.lemmas.List.{length-take-le}
 use Rattle.iov_iter.specs.IovView.{sizes}
 use Rattle.iov_iter.specs.Slots.{places}

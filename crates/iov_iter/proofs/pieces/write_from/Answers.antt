@@ -1,4 +1,4 @@
-use Rattle.std.proofs.Common.{◌≡◌, ◌+◌, ◌-◌, ◌<◌, ◌≤◌, ℕ, List, length, take, drop, get_or, arith, refl, sym, ap, ◌∙◌, subst, length-take, length-drop}
+use Rattle.std.proofs.Common.{◌≡◌, ◌+◌, ◌-◌, ◌<◌, List, length, take, drop, get_or, arith, refl, sym, ap, ◌∙◌, subst, length-take, length-drop}
 use Rattle.iov_iter.specs.IovView.{PagePlace, sizes}
 use Rattle.iov_iter.specs.Slots.{joined, places}
 use Rattle.iov_iter.specs.Spots.{Stands, byte_of}

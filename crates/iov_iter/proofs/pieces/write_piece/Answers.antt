@@ -1,6 +1,5 @@
-use Rattle.std.proofs.Common.{◌≡◌, ◌+◌, ◌-◌, ◌<◌, ◌≤◌, ℕ, List, length, min, take, get_or, set, arith, sym, ap, ◌∙◌, length-take}
-use Rattle.iov_iter.specs.IovView.{sizes}
-use Rattle.iov_iter.specs.Slots.{SlotView, joined, place_of, places}
+use Rattle.std.proofs.Common.{◌-◌, length, min, take, set, arith, sym, ap, ◌∙◌, length-take}
+use Rattle.iov_iter.specs.Slots.{SlotView, joined, place_of}
 use Rattle.iov_iter.proofs.SlotLemmas.{home_read, place_written, places_read, size_read, write_read}
 use Rattle.iov_iter.proofs.pieces.write_piece.Goals as goal
 

@@ -1,4 +1,4 @@
-use Rattle.std.proofs.Common.{◌≡◌, ◌+◌, ◌<◌, ◌≤◌, length, arith}
+use Rattle.std.proofs.Common.{◌+◌, arith}
 use Rattle.iov_iter.specs.IovView.{sizes}
 use Rattle.iov_iter.specs.Slots.{places}
 use Rattle.iov_iter.proofs.SlotLemmas.{length_sizes, size_read}

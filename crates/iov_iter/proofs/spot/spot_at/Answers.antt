@@ -1,8 +1,7 @@
-use Rattle.std.proofs.Common.{◌≡◌, ◌+◌, ◌<◌, ◌/◌, ◌%◌, ◌≤◌, ℕ, get_or, take, sum, length, arith, sym, ap, ◌∙◌, subst}
+use Rattle.std.proofs.Common.{◌+◌, ◌/◌, ◌%◌, ℕ, get_or, take, arith, sym, subst}
 use Rattle.std.proofs.Math.Nat.{div-le_self}
 use Rattle.iov_iter.specs.Making.{sizes_of}
-use Rattle.iov_iter.specs.Spots.{Stands, byte_of}
-use Rattle.iov_iter.proofs.SpotLemmas.{Found, pages_within, segment_within, spot, spot_end, spot_found}
+use Rattle.iov_iter.proofs.SpotLemmas.{Found, pages_within, segment_within, spot_end, spot_found}
 use Rattle.iov_iter.proofs.spot.spot_at.Goals as goal
 
 pub overflow_add-result : goal.overflow_add-result

@@ -1,4 +1,4 @@
-use Rattle.std.proofs.Common.{◌≡◌, ◌+◌, ◌-◌, ◌≤◌, ◌<◌, ℕ, List, [], ◌∷◌, length, set, arith, refl, sym, ap, ◌∙◌, subst}
+use Rattle.std.proofs.Common.{◌≡◌, ◌≤◌, length, set, arith, sym, ap, ◌∙◌, subst}
 use Rattle.iov_iter.specs.Home.{AllHome}
 use Rattle.iov_iter.specs.IovView.{IovView}
 use Rattle.iov_iter.specs.Kept.{IsIov}

@@ -1,9 +1,8 @@
-use Rattle.std.proofs.Common.{◌≡◌, ◌++◌, List, length, take, drop, arith, refl, sym, ap, ◌∙◌, subst}
+use Rattle.std.proofs.Common.{◌≡◌, List, drop, sym, ap, ◌∙◌, subst}
 use Rattle.std.proofs.lemmas.List.{drop-map}
 use Rattle.iov_iter.specs.IovView.{IovView, PagePlace}
 use Rattle.iov_iter.specs.Kept.{IsIov, OutAreWhole}
 use Rattle.iov_iter.specs.Moving.{ArePagesOf, CanPut, after_put}
-use Rattle.iov_iter.specs.Runs.{FitIn}
 use Rattle.iov_iter.specs.Slots.{iov_view, place_of, places}
 use Rattle.iov_iter.proofs.PutLemmas.{kept_put, out_drop, pages_fit, view_put}
 use Rattle.iov_iter.proofs.iov.IovIter.put_pages.Goals as goal

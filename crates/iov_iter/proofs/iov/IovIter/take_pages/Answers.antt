@@ -1,4 +1,4 @@
-use Rattle.std.proofs.Common.{◌≡◌, ◌+◌, ◌*◌, ◌++◌, ◌≤◌, ◌<◌, ℕ, List, length, map, take, drop, arith, refl, sym, ap, ◌∙◌, subst, length-drop}
+use Rattle.std.proofs.Common.{◌≡◌, ◌+◌, ◌*◌, ◌++◌, List, drop, arith, refl, sym, ap, ◌∙◌, subst, length-drop}
 use Rattle.std.proofs.lemmas.List.{drop-map}
 use Rattle.iob_base.specs.declared.sector.Page.{Page}
 use Rattle.iov_iter.specs.IovView.{IovView, PagePlace}

@@ -1,4 +1,4 @@
-use Rattle.std.proofs.Common.{◌≡◌, ◌≢◌, ℕ, ◌+◌, ◌-◌, ◌%◌, ◌<◌, ◌≤◌, List, length, get_or, false, true, arith, refl, sym, ap, ◌∙◌, subst}
+use Rattle.std.proofs.Common.{◌≡◌, ℕ, ◌+◌, ◌-◌, ◌%◌, List, get_or, arith, sym, ap, ◌∙◌, subst}
 use Rattle.iov_iter.specs.Unaligned.{IsFirstUnaligned}
 use Rattle.iov_iter.proofs.iov.IovIter.unaligned.Goals as goal
 

@@ -1,8 +1,8 @@
-use Rattle.std.proofs.Common.{◌≡◌, ◌≤◌, ◌<◌, ◌+◌, ℕ, List, length, sum, replicate, arith, sym, ap, ◌∙◌, subst}
+use Rattle.std.proofs.Common.{ℕ, List, length, sum, arith, sym, ap, ◌∙◌, subst}
 use Rattle.std.proofs.lemmas.List.{length-replicate}
 use Rattle.iov_iter.specs.Kept.{OutAreWhole}
 use Rattle.iov_iter.specs.IovView.{PagePlace, sizes}
-use Rattle.iov_iter.specs.Making.{numbered, sizes_of}
+use Rattle.iov_iter.specs.Making.{sizes_of}
 use Rattle.iov_iter.specs.Home.{is_home}
 use Rattle.iov_iter.proofs.Filling.{numbered_home}
 use Rattle.iov_iter.proofs.Sizes.{total_sizes}
