@@ -1,6 +1,5 @@
 //! The iov and its calls.
-ghost use Rattle.std.specs.Prelude.{◌≡◌, ◌+◌, ◌-◌, ◌<◌, ◌≤◌, ◌^◌, [], ◌∷◌, ◌++◌, IfNone, IfOk, IfSome, length, map, replicate, sum, take, drop};
-ghost use Rattle.std.specs.List.{flat_map};
+ghost use Rattle.std.specs.Prelude.{◌≡◌, ◌+◌, ◌-◌, ◌<◌, ◌≤◌, ◌^◌, ◌++◌, IfNone, IfOk, IfSome, length, replicate, sum, take, drop};
 ghost use Rattle.arrayvec.specs.ArrayVec.{array_vec_len};
 ghost use Rattle.iov_iter.specs.Home.{AllHome, AreHome};
 ghost use Rattle.iov_iter.specs.IovView.{moved_to, put_at, with_bytes, written_on};
@@ -14,7 +13,7 @@ pub use crate::pages::Pages;
 use crate::pages::{cut_after, put_run, take_run};
 use crate::pieces::{read_from, write_from};
 use crate::slot::Slot;
-use crate::spot::{Spot, spot_at};
+use crate::spot::spot_at;
 use std::alloc::{AllocError, Global};
 use std::marker::Model;
 

@@ -1,5 +1,5 @@
 //! Pages leave their slots and come back to them.
-ghost use Rattle.std.specs.Prelude.{◌≡◌, ◌+◌, ◌<◌, ◌≤◌, ◌++◌, true, length, map, slice_index, take, drop, vec_len};
+ghost use Rattle.std.specs.Prelude.{◌≡◌, ◌+◌, ◌<◌, ◌≤◌, ◌++◌, true, map, slice_index, take, drop, vec_len};
 ghost use Rattle.arrayvec.specs.ArrayVec.{array_vec_len};
 ghost use Rattle.iov_iter.specs.Home.{is_home};
 ghost use Rattle.iov_iter.specs.IovView.{sizes, start_in};
