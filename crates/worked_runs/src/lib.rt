@@ -6,6 +6,8 @@ mod locks;
 #[cfg(test)]
 mod maps;
 #[cfg(test)]
+mod pool;
+#[cfg(test)]
 mod replays;
 #[cfg(test)]
 mod turns;
