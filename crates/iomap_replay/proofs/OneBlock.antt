@@ -23,7 +23,7 @@ use Rattle.iomap_replay.specs.Jobs.{IsJobOf, script_of_job}
 use Rattle.iomap_replay.specs.OneRead.{block_of, opened_range, GaveRange, GaveNothing, IsOutcome, IsWholeEnd}
 use Rattle.iomap_replay.specs.Runs.{read_stamp, sector_with}
 use Rattle.iomap_replay.specs.declared.script.Job.{Job}
-use Rattle.range_core.specs.Cells.{cells_of, sectors_after}
+use Rattle.range_core.specs.Cells.{cells_of, cold_cell, sectors_after}
 use Rattle.range_core.specs.Events.{with_stamps}
 use Rattle.range_core.specs.Stamps.{stamps_from}
 use Rattle.range_core.specs.Kinds.{kinds_from}
@@ -34,7 +34,7 @@ use Rattle.range_core.specs.declared.cell.Cell.{Cell}
 
 -- a mapped block with its device block
 abbrev pub mapped_cell : Script → ℕ → Cell
-mapped_cell script m = record { kind = Mapped m; sector = Some (device_block m (device_bytes script m)) }
+mapped_cell script m = cold_cell (Mapped m) (Some (device_block m (device_bytes script m)))
 
 -- these blocks begin with a mapped one, whose bytes are the opening content of block b
 pub record IsHere (script : Script) (b : ℕ) (cells : List Cell) : Type 0 where
@@ -64,7 +64,7 @@ here script job of =
     let place : 0 + b ≡ b = omega arith in
     let left : job.blocks - b ≡ suc many = omega (arith, at.high, at.inside) in
     let others = cells_of (kinds_from (e ∷ []) (b + 1) many) (sectors_after (kind_at (e ∷ []) b) (rest_at content d e.block (e.block + e.length) b)) in
-    let cell : Option DeviceBlock → Kind → Cell = λ sector k. record { kind = k; sector = sector } in
+    let cell : Option DeviceBlock → Kind → Cell = λ sector k. cold_cell k sector in
     record {
       number = m;
       others = others;

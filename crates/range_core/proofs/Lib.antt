@@ -1,7 +1,11 @@
+pub mod AfterEntry
 pub mod CellLemmas
+pub mod FirstTruth
 pub mod KindLemmas
+pub mod KindRuns
 pub mod LendingLemmas
 pub mod MergeLemmas
 pub mod ReadLemmas
 pub mod RunLemmas
+pub mod StakeTruth
 pub mod StampLemmas
