@@ -1,5 +1,5 @@
 -- The range truth after one more entry.
-use Rattle.std.proofs.Common.{◌≡◌, ◌≢◌, ℕ, ◌+◌, ◌-◌, ◌*◌, ◌/◌, ◌%◌, ◌≤◌, ◌^◌, nat_eq, Some, List, [], ◌∷◌, ◌++◌, get_or, set, All, refl, sym, ◌∙◌, ap, subst, arith, append_assoc, append-nil, ⊎_elim}
+use Rattle.std.proofs.Common.{◌≡◌, ◌≢◌, length, ℕ, ◌+◌, ◌-◌, ◌*◌, ◌/◌, ◌%◌, ◌≤◌, ◌^◌, nat_eq, Some, List, [], ◌∷◌, ◌++◌, get_or, set, All, refl, sym, ◌∙◌, ap, subst, arith, append_assoc, append-nil, ⊎_elim}
 use Rattle.std.specs.Prelude.{min, max, slice_get}
 use Rattle.std.proofs.Math.Nat.{mod-add-div', add-mul-mod_self_right}
 use Rattle.std.proofs.lemmas.List.Elements.{All-push}
@@ -14,17 +14,19 @@ use Rattle.io_model.specs.Contents.{Content}
 use Rattle.turn_cell.specs.Stakes.{total}
 use Rattle.turn_cell.proofs.Sums.{total-append, total-at, total-set}
 use Rattle.range_core.specs.BlockContents.{content_after, opening_bytes}
-use Rattle.range_core.specs.BlockStates.{BlockState, state_after, state_of}
+use Rattle.range_core.specs.BlockStates.{state_after, state_of}
 use Rattle.range_core.specs.BlockTruth.{IsTrueAt}
 use Rattle.range_core.specs.ClaimsView.{ClaimsView}
 use Rattle.range_core.specs.EntryCounts.{changes, failures, lendings, made_as, one_where}
 use Rattle.range_core.specs.EntryStamps.{stamps_in, stamps_of}
 use Rattle.range_core.specs.Lookups.{GivesPresent}
+use Rattle.range_core.specs.Quiet.{IsQuiet}
 use Rattle.range_core.specs.RangeTruth.{IsSameRun, IsUncached, RangeTruth, content_at, pending}
 use Rattle.range_core.specs.RangeView.{RangeView}
 use Rattle.range_core.specs.Stakes.{IsApart, RangeStake, held_by, mains, names, names_block, spares, workers}
 use Rattle.range_core.specs.declared.cell.Cell.{Cell}
 use Rattle.range_core.specs.declared.entry.Entry.{Entry}
+use Rattle.range_core.proofs.KindRuns.{keep_samples, kinds_of}
 use Rattle.range_core.proofs.StakeTruth.{SameClaims, true-restaked}
 
 -- what an entry makes of a range: each block's state, the counts, the cookie and the log
@@ -148,14 +150,12 @@ module _ (opening now next : RangeView) (history : List Entry) (e : Entry) (stak
         callers_are_apart = λ caller l. apart_more caller history e stakes number claims left made (made ++ e ∷ []) here goes by (t.callers_are_apart caller l);
       }
 
--- an entry that leaves everything as it was
-pub record IsQuiet (size : ℕ) (e : Entry) : Type 0 where
-  pub content : (b : ℕ) (x : Content) → content_after size b x e ≡ x
-  pub state : (b : ℕ) (s : BlockState) → state_after size b s e ≡ s
-  pub failed : failures e ≡ 0
-  pub lent : lendings e ≡ 0
-  pub changed : changes e ≡ 0
-  pub stamps : stamps_of size e ≡ []
+-- no ticket was given
+quiet_tickets : (opening now : RangeView) (history : List Entry) (e : Entry) (stakes : List RangeStake) → RangeTruth opening now history stakes → lendings e ≡ 0 → now.tickets ≡ (now.tickets + lendings e) % (2 ^ 64)
+quiet_tickets opening now history e stakes t none =
+    let z : now.tickets + lendings e ≡ now.tickets + 0 = ap (λ n. now.tickets + n) none in
+    let k : now.tickets ≡ (opening.tickets + total lendings history) % (2 ^ 64) = t.tickets_counted in
+    k ∙ sym (ap (λ n. n % (2 ^ 64)) (z ∙ ap (λ n. n + 0) k) ∙ mod-more (opening.tickets + total lendings history) 0 (2 ^ 64) ∙ ap (λ n. n % (2 ^ 64)) (omega arith))
 
 pub quiet_truth : (opening now : RangeView) (history : List Entry) (e : Entry) (stakes : List RangeStake) (number : ℕ) (claims : ClaimsView) (made : List Entry) → RangeTruth opening now history stakes
     → get_elem? stakes number ≡ some (Some claims, made) → IsQuiet opening.geometry.block_size e → GivesPresent now e → e.caller ≡ claims.caller
@@ -168,10 +168,7 @@ quiet_truth opening now history e stakes number claims made t here q gives by =
       same_run = record { geometry = refl; mode = refl; first = refl; blocks = refl };
       states = λ i was c there at. ap state_of (same i was c there at) ∙ sym (q.state (opening.first + i) (state_of was));
       errors = let f = q.failed in let p = t.errors_counted in omega arith;
-      tickets =
-          let z : now.tickets + lendings e ≡ now.tickets + 0 = ap (λ n. now.tickets + n) q.lent in
-          let k : now.tickets ≡ (opening.tickets + total lendings history) % (2 ^ 64) = t.tickets_counted in
-          k ∙ sym (ap (λ n. n % (2 ^ 64)) (z ∙ ap (λ n. n + 0) k) ∙ mod-more (opening.tickets + total lendings history) 0 (2 ^ 64) ∙ ap (λ n. n % (2 ^ 64)) (omega arith));
+      tickets = quiet_tickets opening now history e stakes t q.lent;
       cookie = let f = q.changed in omega arith;
       log = sym (append-nil now.log) ∙ ap (λ l. now.log ++ l) (sym q.stamps);
       headroom = t.cookie_has_headroom;
@@ -185,4 +182,32 @@ quiet_truth opening now history e stakes number claims made t here q gives by =
     let C : Cell → Type 0 = λ x. IsTrueAt size b x (content_after size b content e) others in
     let X : Content → Type 0 = λ x. IsTrueAt size b was x others in
     subst C (sym (same i was c there at)) (subst X (sym (q.content b content)) (true-restaked size b was content stakes others (same_set stakes number claims claims made _ here refl) here_true)))
+    (record { caller = refl; spare = refl; main = refl }) by
+
+-- where an entry leaves everything but pages as it was, the truth holds of blocks that are as true with the pages as they are
+pub paged_truth : (opening now : RangeView) (cells : List Cell) (history : List Entry) (e : Entry) (stakes : List RangeStake) (number : ℕ) (claims : ClaimsView) (made : List Entry) → RangeTruth opening now history stakes
+    → get_elem? stakes number ≡ some (Some claims, made) → IsQuiet opening.geometry.block_size e → GivesPresent (record now { cells = cells }) e → e.caller ≡ claims.caller
+    → length cells ≡ length now.cells → kinds_of cells ≡ kinds_of now.cells → total pending cells ≡ total pending now.cells → (All IsUncached now.cells → All IsUncached cells)
+    → ((i : ℕ) (was c : Cell) → slice_get now.cells i ≡ Some was → slice_get cells i ≡ Some c → state_of c ≡ state_of was)
+    → ((i : ℕ) (was c : Cell) (b : ℕ) (content : Content) → slice_get now.cells i ≡ Some was → slice_get cells i ≡ Some c → IsTrueAt opening.geometry.block_size b was content stakes → IsTrueAt opening.geometry.block_size b c content stakes)
+    → RangeTruth opening (record now { cells = cells }) (history ++ e ∷ []) (set stakes number (Some claims, made ++ e ∷ []))
+paged_truth opening now cells history e stakes number claims made t here q gives by many kinds pends uncached states blocks =
+    after_entry opening now (record now { cells = cells }) history e stakes number claims claims made t here
+    (record {
+      same_run = record { geometry = refl; mode = refl; first = refl; blocks = many };
+      states = λ i was c there at. states i was c there at ∙ sym (q.state (opening.first + i) (state_of was));
+      errors = let f = q.failed in let p = t.errors_counted in omega arith;
+      tickets = quiet_tickets opening now history e stakes t q.lent;
+      cookie = let f = q.changed in omega arith;
+      log = sym (append-nil now.log) ∙ ap (λ l. now.log ++ l) (sym q.stamps);
+      headroom = let h = t.cookie_has_headroom in omega arith;
+      uncached = λ d. uncached (t.dax_is_uncached d);
+    })
+    (All-push (GivesPresent (record now { cells = cells })) history e (keep_samples now (record now { cells = cells }) history refl (omega arith) (λ _. kinds) t.samples_give_extents) gives)
+    (λ i was c content there at here_true.
+    let size : ℕ = opening.geometry.block_size in
+    let b : ℕ = opening.first + i in
+    let others : List RangeStake = set stakes number (Some claims, made ++ e ∷ []) in
+    let X : Content → Type 0 = λ x. IsTrueAt size b c x others in
+    subst X (sym (q.content b content)) (true-restaked size b c content stakes others (same_set stakes number claims claims made _ here refl) (blocks i was c b content there at here_true)))
     (record { caller = refl; spare = refl; main = refl }) by

@@ -41,3 +41,6 @@ is_unwritten Hole = false
 is_unwritten Delalloc = false
 is_unwritten (Unwritten d) = true
 is_unwritten (Mapped d) = false
+
+abbrev pub is_hole : Kind → Bool
+is_hole k = is_kind k Hole

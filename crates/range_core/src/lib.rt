@@ -7,6 +7,7 @@ mod claims;
 mod end;
 mod entry;
 mod fault;
+mod laws;
 mod lending;
 mod merge;
 mod open;
@@ -23,7 +24,12 @@ pub use end::RangeEnd;
 pub use entry::{Entry, Event, Outcome};
 pub use fault::EventFault;
 pub use io_model::{BlockEnd, Extent, Kind};
+pub use laws::{
+    failed_write_lands_a_prefix, loan_is_claimed, only_what_hinders_refuses, others_stay_claimed,
+    refusals_have_an_order, refused_is_quiet, return_frees_claim, store_leaves_zeros_around,
+    store_stamps_each_block, wipe_leaves_a_hole, writeback_maps,
+};
 pub use lending::{Away, Held, Lender, Lent};
-pub use range::{Look, Range};
+pub use range::{DropPages, Look, Range};
 pub use sample::Sample;
 pub use transfer::Pages;

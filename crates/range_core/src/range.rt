@@ -5,6 +5,7 @@ ghost use Rattle.fault_device.specs.LaneView.{lane_seen};
 ghost use Rattle.fault_device.specs.Opening.{Opening, Serves};
 ghost use Rattle.fault_device.specs.Ran.{Ran};
 
+mod drops;
 mod look;
 
 use crate::cell::Cell;
@@ -15,6 +16,7 @@ use crate::open::build_cells;
 use crate::run::run_at;
 use crate::stamps::{add_stamps, end_blocks, stamp_done};
 use crate::transfer::{Pages, read_block_run};
+pub use drops::DropPages;
 use fault_device::{Lane, Part};
 use io_model::Extent;
 use iob_base::{Geometry, Items, Mode, Sector, Stamp, Tag};
