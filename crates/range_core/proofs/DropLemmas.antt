@@ -61,7 +61,7 @@ bare_true size b c content stakes e t =
           let H : Option Away → Type 0 = λ a. HomeContent size c content a in
           let G : Option Away → Type 0 = λ a. HomeContent size (bare c) content a in
           let here : IsHomeContent size c content = subst H home t.home_is_on_device in
-          subst G (sym home) (record { on_device = here.on_device; spaceless_is_zeros = here.spaceless_is_zeros });
+          subst G (sym home) (record { clean_is_on_device = here.clean_is_on_device; spaceless_is_zeros = here.spaceless_is_zeros });
       dirty_is_uptodate = λ d. absurd (cc);
       away_is_claimed = record {
         once = t.away_is_claimed.once;

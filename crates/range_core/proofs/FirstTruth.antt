@@ -103,7 +103,7 @@ cold_is_true size b c cold home =
       place = let P : Option Away → Type 0 = λ a. HasPlace size c.kind c.sector a in subst P (sym cold.away) home;
       uptodate_is_replay = subst page (sym cold.page) tt;
       home_is_on_device = subst away (sym cold.away) (record {
-        on_device = λ m d. sector_content size (mapped_number c.kind) c.sector m;
+        clean_is_on_device = λ m d. sector_content size (mapped_number c.kind) c.sector m;
         spaceless_is_zeros = λ m d. zeros_elsewhere size (mapped_number c.kind) c.sector m;
       });
       dirty_is_uptodate = λ d. absurd (let e = cold.clean in cc);

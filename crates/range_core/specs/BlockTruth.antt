@@ -30,7 +30,7 @@ HasPlace size kind sector (Some away) = (sector ≡ None) × IsTrue (has_space k
 
 -- at home, the sector of a mapped block that is clean has the content; a block of another kind that is not dirty reads as zeros
 pub record IsHomeContent (size : ℕ) (c : Cell) (content : Content) : Type 0 where
-  pub on_device : is_mapped c.kind ≡ true → c.dirty ≡ false → IfSome c.sector (λ s. s.bytes ≡ content)
+  pub clean_is_on_device : is_mapped c.kind ≡ true → c.dirty ≡ false → IfSome c.sector (λ s. s.bytes ≡ content)
   pub spaceless_is_zeros : is_mapped c.kind ≡ false → c.dirty ≡ false → content ≡ zeros size
 
 abbrev pub HomeContent : ℕ → Cell → Content → Option Away → Type 0
