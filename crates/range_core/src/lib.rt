@@ -1,4 +1,15 @@
 //! A run of blocks of one file, and the events that change it.
+//!
+//! A range owns its blocks' sectors and pages. Callers share it as the value of a turn cell: each event is the change of
+//! one turn, and the range truth of `specs/RangeTruth.antt` holds between any two turns.
+//!
+//! - `cell`: what is kept of a block, and the kinds that extents give
+//! - `lending`, `claims`: what is lent, and what a seat claims of it
+//! - `sample`, `entry`, `fault`: what events tell, what a turn is in the history, and what events are refused for
+//! - `range`: the range, how it begins and ends, and its events, each in a module of its own below it
+//! - `chronicle`: the range as the value of a turn cell, and how seats are cut
+//! - `open`, `merge`, `stamps`, `run`, `transfer`: what the events are made of
+//! - `laws`: what the definitions say, tried by hand
 #![tactic(auto)]
 
 mod cell;
