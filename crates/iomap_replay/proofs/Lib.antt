@@ -2,12 +2,13 @@ pub mod Cuts
 pub mod Devices
 pub mod Endings
 pub mod Firsts
-pub mod OneBlock
+pub mod Joined
 pub mod OneContents
 pub mod OneFile
 pub mod OneRange
 pub mod OneRead
 pub mod Outcome
+pub mod ReadRun
 pub mod RightRun
 pub mod Shapes
 pub mod Spans

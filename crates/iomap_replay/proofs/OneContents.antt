@@ -1,8 +1,9 @@
 -- The contents of a file that was only read, and the bytes that the read gave.
 use Rattle.std.proofs.Common.{◌≡◌, ℕ, ◌+◌, ◌-◌, ◌*◌, ◌≤◌, Bool, true, false, not, ◌||◌, List, [], ◌∷◌, Some, None, Option, is_some, if◌then◌else◌, length, take, drop, replicate, refl, sym, ap, ◌∙◌, arith, eq-eqb}
+use Rattle.std.specs.Prelude.{max, min}
 use Rattle.std.specs.List.{list_all}
 use Rattle.std.specs.Str.{bytes_eq}
-use Rattle.std.proofs.lemmas.List.{take_all, length-replicate}
+use Rattle.std.proofs.lemmas.List.{length-replicate}
 use Rattle.iob_base.specs.declared.answer.Reply.TheVariants.{Ok}
 use Rattle.iob_base.specs.declared.answer.Stop.TheVariants.{Whole}
 use Rattle.io_model.specs.Answered.{answered_span, is_answered}
@@ -21,11 +22,13 @@ use Rattle.io_model.specs.declared.run.CallEnd.{CallEnd}
 use Rattle.io_model.specs.declared.script.Script.{Script}
 use Rattle.iomap_replay.proofs.Devices.{length-given_or}
 use Rattle.iomap_replay.proofs.OneRead.{IsAt, answered-whole, is_answered-here}
-use Rattle.iomap_replay.proofs.Spans.{part_in-here}
+use Rattle.iomap_replay.proofs.Joined.{between-taken, piece-joined}
+use Rattle.iomap_replay.proofs.Spans.{LiesAcross, among, met}
 use Rattle.iomap_replay.specs.Facts.{IsShape, is_whole}
 use Rattle.iomap_replay.specs.Jobs.{script_of_job}
 use Rattle.iomap_replay.specs.OnePread.{one_call}
-use Rattle.iomap_replay.specs.Runs.{read_stamp, sector_with}
+use Rattle.iomap_replay.specs.OneRead.{joined_from}
+use Rattle.iomap_replay.specs.Runs.{is_among, read_stamp, sector_with}
 use Rattle.iomap_replay.specs.Words.{Word}
 use Rattle.iomap_replay.specs.declared.script.Job.{Job}
 
@@ -67,45 +70,68 @@ pub length-device_bytes : (name : Word) (job : Job) (given : List (ℕ × List �
 length-device_bytes name job given d shape whole =
     length-given_or job.device given (replicate job.geometry.block_size job.device.fill) d whole (length-replicate _ _ ∙ shape.size) ∙ sym shape.size
 
--- a range of a content, cut as the definition cuts it
-between-place : (content : Content) (low from n : ℕ) → low ≤ from → bytes_between (from - low) (from + n - low) content ≡ take n (drop (from - low) content)
-between-place content low from n within =
-    let long : from + n - low - (from - low) ≡ n = omega (arith, within) in
-    ap (λ k. take k (drop (from - low) content)) long
+-- the content of a block is as many bytes as a block has
+pub length-opening : (name : Word) (job : Job) (given : List (ℕ × List ℕ)) → IsShape job.device job.geometry job.blocks job.extent job.asked
+    → list_all (is_whole job.device) given ≡ true → (b : ℕ) → length (opening_content (script_of_job name job given) 0 b) ≡ job.geometry.block_size
+length-opening name job given shape whole b = by_number (mapped_number (kind_at (job.extent ∷ []) b))
+  where
+    by_number : (m : Option ℕ) → length (mapped_or_zeros (script_of_job name job given) m) ≡ job.geometry.block_size
+    by_number None = length-replicate _ _
+    by_number (Some d) = length-device_bytes name job given d shape whole
 
--- all bytes that were read, cut as the definition cuts them
-between-all : (got : List ℕ) (from n : ℕ) → length got ≡ n → bytes_between (from - from) (from + n - from) got ≡ got
-between-all got from n many =
-    let begin : from - from ≡ 0 = omega arith in
-    let long : from + n - from - (from - from) ≡ n = omega arith in
-    ap (λ k. take k (drop (from - from) got)) long ∙ ap (λ k. take n (drop k got)) begin ∙ take_all n got (omega (arith, many))
+-- what the read gave of a block that it met is what the block had
+between-equal : (opening : ℕ → Content) (size b k off n c : ℕ) (got : List ℕ) → ((i : ℕ) → length (opening i) ≡ size)
+    → LiesAcross size b k off n → is_among b k c ≡ true → got ≡ take n (drop (off - b * size) (joined_from opening b k))
+    → bytes_between (max off (c * size) - off) (min (off + n) ((c + 1) * size) - off) got
+    ≡ bytes_between (max off (c * size) - c * size) (min (off + n) ((c + 1) * size) - c * size) (opening c)
+between-equal opening size b k off n c got whole lies here is =
+    let at = among b k c here in
+    let m = met size b k off n c lies at.0 at.1 in
+    let from = max off (c * size) in
+    let to = min (off + n) ((c + 1) * size) in
+    let j = c - b in
+    let x = from - c * size in
+    let above : c * size ≤ from = omega arith in
+    let order : from ≤ to = omega (arith, lies.whole, lies.some, m.next, m.begin, m.end) in
+    let place : c ≡ b + j = omega (arith, at.0) in
+    let far : c * size ≡ b * size + j * size = ap (λ i. i * size) place ∙ (let e : (b + j) * size ≡ b * size + j * size = omega arith in e) in
+    let there : from - b * size ≡ j * size + x = omega (arith, far, above) in
+    let fits : x + (to - from) ≤ size = omega (arith, m.next, above, order) in
+    let many : to - c * size - x ≡ to - from = omega (arith, above, order) in
+    ap (bytes_between (from - off) (to - off)) is
+    ∙ between-taken (joined_from opening b k) (b * size) off n from to lies.low (omega arith) order (omega arith)
+    ∙ ap (λ p. take (to - from) (drop p (joined_from opening b k))) there
+    ∙ piece-joined opening size b k j x (to - from) whole (omega (arith, at.0, at.1)) fits
+    ∙ ap (λ i. take (to - from) (drop x (opening i))) (sym place)
+    ∙ sym (ap (λ l. take l (drop x (opening c))) many)
 
--- what the read gave of its block is what the block had
-pub gives-here : (name : Word) (job : Job) (given : List (ℕ × List ℕ)) (b : ℕ) (end : CallEnd) (block : BlockEnd) → IsAt job b
-    → end.answer.reply ≡ Ok job.asked.length Whole → block.journal ≡ read_stamp ∷ [] → length end.got ≡ job.asked.length
-    → end.got ≡ take job.asked.length (drop (job.asked.off - b * job.geometry.block_size) (opening_content (script_of_job name job given) 0 b))
-    → gives_block (script_of_job name job given) 1 (one_call job.asked) end b block ≡ true
-gives-here name job given b end block at reply journal many got =
+pub gives-here : (name : Word) (job : Job) (given : List (ℕ × List ℕ)) (b k c : ℕ) (end : CallEnd) (block : BlockEnd)
+    → IsShape job.device job.geometry job.blocks job.extent job.asked → list_all (is_whole job.device) given ≡ true → IsAt job b k → is_among b k c ≡ true
+    → end.answer.reply ≡ Ok job.asked.length Whole → block.journal ≡ read_stamp ∷ []
+    → end.got ≡ take job.asked.length (drop (job.asked.off - b * job.geometry.block_size) (joined_from (opening_content (script_of_job name job given) 0) b k))
+    → gives_block (script_of_job name job given) 1 (one_call job.asked) end c block ≡ true
+gives-here name job given b k c end block shape whole at here reply journal got =
     let script = script_of_job name job given in
     let size = job.geometry.block_size in
     let off = job.asked.off in
     let n = job.asked.length in
-    let opening = opening_content script 0 b in
-    let cut : Span → Bool = λ part. bytes_eq (bytes_between (part.from - off) (part.to - off) end.got) (bytes_between (part.from - b * size) (part.to - b * size) opening) in
-    let part : part_in size (answered_span script (one_call job.asked) end.answer.reply) b ≡ span off (off + n) =
-    ap (λ r. part_in size (answered_span script (one_call job.asked) r) b) reply
-    ∙ ap (λ s. part_in size s b) (answered-whole name job given b at) ∙ part_in-here size b off n at.lies in
-    let equal : cut (span off (off + n)) ≡ true =
-    ap (λ bytes. bytes_eq bytes (bytes_between (off - b * size) (off + n - b * size) opening)) (between-all end.got off n many)
-    ∙ ap (λ bytes. bytes_eq end.got bytes) (between-place opening (b * size) off n at.lies.low ∙ sym got) ∙ bytes_eq-refl end.got in
-    let answered : is_answered script (one_call job.asked) end.answer.reply b ≡ true =
-    ap (λ r. is_answered script (one_call job.asked) r b) reply ∙ is_answered-here name job given b at in
-    ap (λ stamps. not (is_answered script (one_call job.asked) end.answer.reply b)
-    || bytes_eq (bytes_between ((part_in size (answered_span script (one_call job.asked) end.answer.reply) b).from - off)
-    ((part_in size (answered_span script (one_call job.asked) end.answer.reply) b).to - off) end.got)
-    (bytes_between ((part_in size (answered_span script (one_call job.asked) end.answer.reply) b).from - b * size)
-    ((part_in size (answered_span script (one_call job.asked) end.answer.reply) b).to - b * size) (replayed script 0 b (stamps_before 1 stamps)))) journal
-    ∙ ap (λ (t : Bool). not t || cut (part_in size (answered_span script (one_call job.asked) end.answer.reply) b)) answered
+    let opening = opening_content script 0 c in
+    let cut : Span → Bool = λ part. bytes_eq (bytes_between (part.from - off) (part.to - off) end.got) (bytes_between (part.from - c * size) (part.to - c * size) opening) in
+    let part : part_in size (answered_span script (one_call job.asked) end.answer.reply) c ≡ part_in size (span off (off + n)) c =
+    ap (λ r. part_in size (answered_span script (one_call job.asked) r) c) reply
+    ∙ ap (λ s. part_in size s c) (answered-whole name job given b k at) in
+    let equal : cut (part_in size (span off (off + n)) c) ≡ true =
+    ap (λ bytes. bytes_eq bytes (bytes_between (max off (c * size) - c * size) (min (off + n) ((c + 1) * size) - c * size) opening))
+    (between-equal (opening_content script 0) size b k off n c end.got (length-opening name job given shape whole) at.lies here got)
+    ∙ bytes_eq-refl (bytes_between (max off (c * size) - c * size) (min (off + n) ((c + 1) * size) - c * size) opening) in
+    let answered : is_answered script (one_call job.asked) end.answer.reply c ≡ true =
+    ap (λ r. is_answered script (one_call job.asked) r c) reply ∙ is_answered-here name job given b k c at here in
+    ap (λ stamps. not (is_answered script (one_call job.asked) end.answer.reply c)
+    || bytes_eq (bytes_between ((part_in size (answered_span script (one_call job.asked) end.answer.reply) c).from - off)
+    ((part_in size (answered_span script (one_call job.asked) end.answer.reply) c).to - off) end.got)
+    (bytes_between ((part_in size (answered_span script (one_call job.asked) end.answer.reply) c).from - c * size)
+    ((part_in size (answered_span script (one_call job.asked) end.answer.reply) c).to - c * size) (replayed script 0 c (stamps_before 1 stamps)))) journal
+    ∙ ap (λ (t : Bool). not t || cut (part_in size (answered_span script (one_call job.asked) end.answer.reply) c)) answered
     ∙ ap cut part ∙ equal
 
 -- a block that was not answered is not asked after

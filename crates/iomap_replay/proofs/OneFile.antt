@@ -1,8 +1,8 @@
 -- The blocks of a file with one mapped extent, as a range that was only read leaves them.
-use Rattle.std.proofs.Common.{◌≡◌, ℕ, zero, suc, ◌+◌, ◌-◌, ◌<◌, ◌≤◌, Bool, true, false, List, [], ◌∷◌, Some, None, nat_eq, nat_le, nat_lt, if◌then◌else◌, map, drop, refl, sym, ap, ◌∙◌, arith, ◌⊎◌, inl, inr, subst, eq-eqb}
+use Rattle.std.proofs.Common.{◌≡◌, ℕ, zero, suc, ◌+◌, ◌-◌, ◌<◌, ◌≤◌, Bool, true, false, List, [], ◌∷◌, Some, None, nat_eq, nat_le, nat_lt, if◌then◌else◌, map, drop, refl, sym, ap, ◌∙◌, arith, ◌⊎◌, inl, inr, subst}
 use Rattle.std.specs.Prelude.{max}
 use Rattle.std.specs.List.{cons_option}
-use Rattle.std.proofs.lemmas.Bool.{ltb-true, ltb-false, lt-ltb, leb-true, leb-false, le-leb, eqb-true}
+use Rattle.std.proofs.lemmas.Bool.{ltb-true, ltb-false, lt-ltb, leb-true, leb-false, le-leb, eqb-true, eqb-false}
 use Rattle.iob_base.specs.DeviceBlock.{DeviceBlock}
 use Rattle.iob_base.specs.declared.stamp.Stamp.{Stamp}
 use Rattle.io_model.specs.Contents.{Content}
@@ -11,11 +11,12 @@ use Rattle.io_model.specs.declared.file.Extent.{Extent}
 use Rattle.io_model.specs.declared.file.Kind.{Kind}
 use Rattle.io_model.specs.declared.file.Kind.TheVariants.{Hole, Mapped}
 use Rattle.iomap_replay.specs.Devices.{blocks_with}
-use Rattle.iomap_replay.specs.Runs.{tabulated, read_end, sector_with}
+use Rattle.iomap_replay.specs.Runs.{is_among, tabulated, read_end, sector_with}
+use Rattle.iomap_replay.proofs.Spans.{among, apart, is_among-in, is_among-out}
 use Rattle.range_core.specs.Cells.{cell_of, cells_of, sectors_after}
 use Rattle.range_core.specs.Kinds.{kinds_from}
 use Rattle.range_core.specs.declared.cell.Cell.{Cell}
-use Rattle.range_core.specs.Stamps.{bare_end, journaled, stamps_at}
+use Rattle.range_core.specs.Stamps.{bare_end, journaled, stamps_at, stamps_from}
 
 -- the sectors of an extent that are left at a block of the file
 abbrev pub rest_at : (ℕ → Content) → ℕ → ℕ → ℕ → ℕ → List DeviceBlock
@@ -84,8 +85,8 @@ steps content e d b kind = by_low (nat_le e.block b) refl
     by_low false is = outside content e d b (rw is refl) (inl (leb-false e.block b is))
 
 -- the ends of the blocks, one after the other
-ends-from : (content : ℕ → Content) (e : Extent) (d read : ℕ) (stamps : List Stamp) (log : List (ℕ × Stamp)) → e.kind ≡ Mapped d
-    → ((b : ℕ) → stamps_at b log ≡ (if nat_eq b read then stamps else [])) → (b n : ℕ)
+ends-from : (content : ℕ → Content) (e : Extent) (d : ℕ) (read : ℕ → Bool) (stamps : List Stamp) (log : List (ℕ × Stamp)) → e.kind ≡ Mapped d
+    → ((b : ℕ) → stamps_at b log ≡ (if read b then stamps else [])) → (b n : ℕ)
     → journaled b log (map bare_end (cells_of (kinds_from (e ∷ []) b n) (rest_at content d e.block (e.block + e.length) b)))
     ≡ tabulated (read_end content (λ i. mapped_number (kind_at (e ∷ []) i)) read stamps) b n
 ends-from content e d read stamps log kind logged b zero = refl
@@ -102,8 +103,8 @@ start_rest content e d =
     ap (λ k. blocks_with content k (e.block + e.length - max 0 e.block)) p ∙ ap (blocks_with content d) q
 
 -- the ends of all blocks of the file
-pub ends-are : (content : ℕ → Content) (e : Extent) (d blocks read : ℕ) (stamps : List Stamp) (log : List (ℕ × Stamp)) → e.kind ≡ Mapped d
-    → ((b : ℕ) → stamps_at b log ≡ (if nat_eq b read then stamps else []))
+pub ends-are : (content : ℕ → Content) (e : Extent) (d blocks : ℕ) (read : ℕ → Bool) (stamps : List Stamp) (log : List (ℕ × Stamp)) → e.kind ≡ Mapped d
+    → ((b : ℕ) → stamps_at b log ≡ (if read b then stamps else []))
     → journaled 0 log (map bare_end (cells_of (kinds_from (e ∷ []) 0 blocks) (blocks_with content d e.length)))
     ≡ tabulated (read_end content (λ i. mapped_number (kind_at (e ∷ []) i)) read stamps) 0 blocks
 ends-are content e d blocks read stamps log kind logged =
@@ -129,25 +130,43 @@ cells-dropped content e d kind (suc k) b (suc n) =
     ap (λ sectors. drop k (cells_of (kinds_from (e ∷ []) (b + 1) n) sectors)) (steps content e d b kind).rest
     ∙ cells-dropped content e d kind k (b + 1) n ∙ ap (λ c. cells c (n - k)) place ∙ ap (cells (b + suc k)) many
 
--- the test of two numbers is the same in either order
-nat_eq-turned : (a b : ℕ) → nat_eq a b ≡ nat_eq b a
-nat_eq-turned a b = by_test (nat_eq a b) refl
+-- one stamp for each of so many blocks stands at these, and none at any other
+pub stamps_at-run : (stamp : Stamp) (b k i : ℕ) → stamps_at i (stamps_from b k stamp) ≡ (if is_among b k i then stamp ∷ [] else [])
+stamps_at-run stamp b zero i =
+    let none : is_among b 0 i ≡ false = is_among-out b 0 i (side (nat_lt i b) refl) in
+    sym (ap (λ (t : Bool). if t then stamp ∷ [] else []) none)
   where
-    by_test : (t : Bool) → nat_eq a b ≡ t → nat_eq a b ≡ nat_eq b a
-    by_test true is = is ∙ sym (eq-eqb b a (sym (eqb-true a b is)))
-    by_test false is = let other : nat_eq b a ≡ false = grind (arith, is) in is ∙ sym other
-
--- the one stamp of a read, and none
-pub stamps_at-one : (read : ℕ) (stamp : Stamp) (b : ℕ) → stamps_at b ((read, stamp) ∷ []) ≡ (if nat_eq b read then stamp ∷ [] else [])
-stamps_at-one read stamp b =
-    ap (λ (t : Bool). cons_option (if t then Some stamp else None) []) (nat_eq-turned read b) ∙ by_test (nat_eq b read)
+    side : (t : Bool) → nat_lt i b ≡ t → (i < b) ⊎ (b + 0 ≤ i)
+    side true is = inl (ltb-true i b is)
+    side false is = let above : b ≤ i = ltb-false i b is in inr (omega (arith, above))
+stamps_at-run stamp b (suc k) i =
+    ap (λ stamps. cons_option (if nat_eq b i then Some stamp else None) stamps) (stamps_at-run stamp (b + 1) k i) ∙ by_first (nat_eq b i) refl
   where
-    by_test : (t : Bool) → cons_option (if t then Some stamp else None) [] ≡ (if t then stamp ∷ [] else [])
-    by_test true = refl
-    by_test false = refl
+    goal_at : Bool → Type 0
+    goal_at t = cons_option (if t then Some stamp else None) (if is_among (b + 1) k i then stamp ∷ [] else []) ≡ (if is_among b (suc k) i then stamp ∷ [] else [])
 
-pub stamps_at-none : (read b : ℕ) → stamps_at b [] ≡ (if nat_eq b read then [] else [])
-stamps_at-none read b = by_test (nat_eq b read)
+    by_first : (t : Bool) → nat_eq b i ≡ t → goal_at t
+    by_first true is =
+        let same : b ≡ i = eqb-true b i is in
+        let rest : is_among (b + 1) k i ≡ false = is_among-out (b + 1) k i (inl (omega (arith, same))) in
+        let here : is_among b (suc k) i ≡ true = is_among-in b (suc k) i (omega (arith, same)) (omega (arith, same)) in
+        ap (λ (t : Bool). cons_option (Some stamp) (if t then stamp ∷ [] else [])) rest ∙ sym (ap (λ (t : Bool). if t then stamp ∷ [] else []) here)
+    by_first false is = ap (λ (t : Bool). if t then stamp ∷ [] else []) (by_rest (is_among (b + 1) k i) refl)
+      where
+        other : b ≡ i → ⊥
+        other = eqb-false b i is
+
+        by_rest : (t : Bool) → is_among (b + 1) k i ≡ t → is_among (b + 1) k i ≡ is_among b (suc k) i
+        by_rest true in_rest =
+            let at = among (b + 1) k i in_rest in
+            in_rest ∙ sym (is_among-in b (suc k) i (omega (arith, at.0)) (omega (arith, at.1)))
+        by_rest false out = out ∙ sym (is_among-out b (suc k) i (elim (apart (b + 1) k i out) [
+          | inl below ↦ inl (omega (arith, below, other))
+          | inr above ↦ inr (omega (arith, above))
+        ]))
+
+pub stamps_at-none : (read : ℕ → Bool) (b : ℕ) → stamps_at b [] ≡ (if read b then [] else [])
+stamps_at-none read b = by_test (read b)
   where
     by_test : (t : Bool) → ◌≡◌ {A = List Stamp} [] (if t then [] else [])
     by_test true = refl

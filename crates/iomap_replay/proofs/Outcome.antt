@@ -1,5 +1,5 @@
 -- From the outcome of the one read, and what its range left, to a right run.
-use Rattle.std.proofs.Common.{◌≡◌, ℕ, zero, suc, ◌+◌, ◌<◌, Bool, true, false, List, [], ◌∷◌, length, map, nat_eq, if◌then◌else◌, sym, ap, ◌∙◌, arith, subst}
+use Rattle.std.proofs.Common.{◌≡◌, ℕ, zero, suc, ◌+◌, ◌<◌, Bool, true, false, List, [], ◌∷◌, length, map, if◌then◌else◌, sym, ap, ◌∙◌, arith, subst}
 use Rattle.std.specs.Prelude.{IsTrue}
 use Rattle.std.specs.Bool.{MatchBool}
 use Rattle.iob_base.specs.DeviceBlock.{DeviceBlock}
@@ -15,20 +15,20 @@ use Rattle.io_model.specs.declared.file.Kind.TheVariants.{Mapped}
 use Rattle.io_model.specs.declared.run.CallEnd.{CallEnd}
 use Rattle.io_model.specs.declared.run.LaneEnd.{LaneEnd}
 use Rattle.io_model.specs.declared.script.Script.{Script}
-use Rattle.iomap_replay.proofs.OneFile.{ends-are, stamps_at-one, stamps_at-none}
+use Rattle.iomap_replay.proofs.OneFile.{ends-are, stamps_at-run, stamps_at-none}
 use Rattle.iomap_replay.proofs.OneRange.{first_is}
 use Rattle.iomap_replay.proofs.OneRead.{is_at}
 use Rattle.iomap_replay.proofs.RightRun.{IsReadFile, right_run, whole_read, failed_read}
 use Rattle.iomap_replay.specs.Devices.{blocks_with, first_number}
 use Rattle.iomap_replay.specs.Jobs.{IsJobOf, script_of_job}
-use Rattle.iomap_replay.specs.OneRead.{block_of, opened_range, GaveRange, GaveNothing, IsOutcome}
-use Rattle.iomap_replay.specs.Runs.{read_stamp, one_run}
+use Rattle.iomap_replay.specs.OneRead.{block_of, count_of, opened_range, GaveRange, GaveNothing, IsOutcome}
+use Rattle.iomap_replay.specs.Runs.{is_among, read_stamp, one_run}
 use Rattle.iomap_replay.specs.declared.script.Job.{Job}
 use Rattle.range_core.proofs.CellLemmas.{length-cells_of, length-kinds_from, kinds-cells_of}
 use Rattle.range_core.specs.Cells.{cells_of}
 use Rattle.range_core.specs.Kinds.{kinds_from}
 use Rattle.range_core.specs.RangeView.{RangeView}
-use Rattle.range_core.specs.Stamps.{bare_end, journaled, stamps_at}
+use Rattle.range_core.specs.Stamps.{bare_end, journaled, stamps_at, stamps_from}
 use Rattle.range_core.specs.declared.cell.Cell.{Cell}
 
 -- a file's end is what a range leaves
@@ -51,11 +51,11 @@ kind_of_each xs ys b (suc n) (suc k) same within =
     let P : ℕ → Type 0 = λ c. kind_at xs c ≡ kind_at ys c in
     subst P place (kind_of_each xs ys (b + 1) n k rest (omega arith))
 
--- the file that the range leaves, with these stamps at the block that was read
-read_file : (script : Script) (job : Job) (d : ℕ) (stamps : List Stamp) (log : List (ℕ × Stamp)) (file : FileEnd) → job.extent.kind ≡ Mapped d
-    → ((b : ℕ) → stamps_at b log ≡ (if nat_eq b (block_of job) then stamps else []))
-    → IsEndOf file (record (opened_range script job) { log = log }) → IsReadFile script job (block_of job) stamps file
-read_file script job d stamps log file kind logged end =
+-- the file that the range leaves, with these stamps at the blocks that were read
+read_file : (script : Script) (job : Job) (d : ℕ) (read : ℕ → Bool) (stamps : List Stamp) (log : List (ℕ × Stamp)) (file : FileEnd) → job.extent.kind ≡ Mapped d
+    → ((b : ℕ) → stamps_at b log ≡ (if read b then stamps else []))
+    → IsEndOf file (record (opened_range script job) { log = log }) → IsReadFile script job read stamps file
+read_file script job d read stamps log file kind logged end =
     let content : ℕ → Content = device_bytes script in
     let e = job.extent in
     let kinds = kinds_from (e ∷ []) 0 job.blocks in
@@ -64,7 +64,7 @@ read_file script job d stamps log file kind logged end =
     let all : kinds_from file.extents 0 job.blocks ≡ kinds = sym (ap (kinds_from file.extents 0) many) ∙ end.kinds ∙ kinds-cells_of kinds sectors in
     record {
       blocks = end.blocks ∙ ap (λ n. journaled 0 log (map bare_end (cells_of kinds (blocks_with content n e.length)))) (first_is e d kind)
-          ∙ ends-are content e d job.blocks (block_of job) stamps log kind logged;
+          ∙ ends-are content e d job.blocks read stamps log kind logged;
       merged = (let P : ℕ → Type 0 = λ n. IsTrue (is_merged_from 0 n file.extents) in
           let end_is : 0 + length (cells_of kinds sectors) ≡ job.blocks = omega (arith, many) in subst P end_is end.merged);
       kinds = λ i within.
@@ -84,16 +84,18 @@ right_spelled script job end file free lanes new of outcome file_end many = by_r
     by_reply true nothing =
         let on = of.shape.tail.extent in
         let s = script_of_job of.name job script.blocks in
-        let read = read_file s job on.mapped.0 [] [] file on.mapped.1 (stamps_at-none (block_of job)) (subst (IsEndOf file) nothing.left file_end) in
-        right_run of.name job script.blocks on.mapped.0 (block_of job) [] file end free lanes of.shape of.whole on.mapped.1 read
-        (failed_read of.name job script.blocks (block_of job) file end nothing.fault read nothing.reply nothing.waited nothing.pages nothing.got) many
+        let none : ℕ → Bool = λ _. false in
+        let read = read_file s job on.mapped.0 none [] [] file on.mapped.1 (stamps_at-none none) (subst (IsEndOf file) nothing.left file_end) in
+        right_run of.name job script.blocks on.mapped.0 none [] file end free lanes of.shape of.whole on.mapped.1 read
+        (failed_read of.name job script.blocks none file end nothing.fault read nothing.reply nothing.waited nothing.pages nothing.got) many
     by_reply false whole =
         let on = of.shape.tail.extent in
         let s = script_of_job of.name job script.blocks in
         let b = block_of job in
-        let read = read_file s job on.mapped.0 (read_stamp ∷ []) ((b, read_stamp) ∷ []) file on.mapped.1 (stamps_at-one b read_stamp) (subst (IsEndOf file) whole.left file_end) in
-        right_run of.name job script.blocks on.mapped.0 b (read_stamp ∷ []) file end free lanes of.shape of.whole on.mapped.1 read
-        (whole_read of.name job script.blocks b file end (is_at job of.shape) read whole.reply whole.pages whole.many whole.got) many
+        let k = count_of job in
+        let read = read_file s job on.mapped.0 (is_among b k) (read_stamp ∷ []) (stamps_from b k read_stamp) file on.mapped.1 (stamps_at-run read_stamp b k) (subst (IsEndOf file) whole.left file_end) in
+        right_run of.name job script.blocks on.mapped.0 (is_among b k) (read_stamp ∷ []) file end free lanes of.shape of.whole on.mapped.1 read
+        (whole_read of.name job script.blocks b k file end of.shape of.whole (is_at job of.shape) read whole.reply whole.pages whole.many whole.got) many
 
 pub right_from_outcome : (script : Script) (job : Job) (end : CallEnd) (file : FileEnd) (free : List DeviceBlock) (lanes : List LaneEnd) (new : RangeView) (of : IsJobOf script job)
     → IsOutcome script job end (opened_range script job) new → IsEndOf file new → length lanes ≡ 17 → RunIsRight script (0 ∷ []) (one_run end file free lanes)

@@ -1,9 +1,8 @@
 -- A run of one read is right: what is true block by block, joined.
-use Rattle.std.proofs.Common.{◌≡◌, ℕ, ◌*◌, ◌<◌, Bool, true, false, not, ◌&&◌, List, [], ◌∷◌, Option, nat_eq, if◌then◌else◌, is_some, length, take, drop, ◌-◌, refl, sym, ap, ◌∙◌, arith, eq-eqb, subst}
+use Rattle.std.proofs.Common.{◌≡◌, ℕ, ◌*◌, ◌<◌, Bool, true, false, not, ◌&&◌, List, [], ◌∷◌, Option, nat_eq, if◌then◌else◌, is_some, length, take, drop, ◌-◌, refl, sym, ap, ◌∙◌, arith, eq-eqb}
 use Rattle.std.specs.Prelude.{IsTrue}
 use Rattle.std.specs.List.{list_all}
 use Rattle.std.specs.Str.{bytes_eq}
-use Rattle.std.proofs.lemmas.Bool.{eqb-true}
 use Rattle.iob_base.specs.DeviceBlock.{DeviceBlock}
 use Rattle.iob_base.specs.declared.answer.Fault.{Fault}
 use Rattle.iob_base.specs.declared.answer.Reply.TheVariants.{Ok, Err}
@@ -31,7 +30,8 @@ use Rattle.iomap_replay.proofs.Tables.{each_from-tabulated, length-tabulated}
 use Rattle.iomap_replay.specs.Facts.{IsShape, is_whole}
 use Rattle.iomap_replay.specs.Jobs.{script_of_job}
 use Rattle.iomap_replay.specs.OnePread.{one_call, one_file}
-use Rattle.iomap_replay.specs.Runs.{read_stamp, one_run, read_end, sector_with, tabulated}
+use Rattle.iomap_replay.specs.OneRead.{joined_from}
+use Rattle.iomap_replay.specs.Runs.{is_among, read_stamp, one_run, read_end, sector_with, tabulated}
 use Rattle.iomap_replay.specs.Words.{Word}
 use Rattle.iomap_replay.specs.declared.script.Job.{Job}
 
@@ -40,16 +40,16 @@ abbrev pub mapped_in : Job → ℕ → Option ℕ
 mapped_in job i = mapped_number (kind_at (job.extent ∷ []) i)
 
 -- the end of a file that was only read
-pub record IsReadFile (script : Script) (job : Job) (read : ℕ) (stamps : List Stamp) (file : FileEnd) : Type 0 where
+pub record IsReadFile (script : Script) (job : Job) (read : ℕ → Bool) (stamps : List Stamp) (file : FileEnd) : Type 0 where
   pub blocks : file.blocks ≡ tabulated (read_end (device_bytes script) (mapped_in job) read stamps) 0 job.blocks
   pub merged : IsTrue (is_merged_from 0 job.blocks file.extents)
   pub kinds : (i : ℕ) → i < job.blocks → kind_at file.extents i ≡ kind_at (job.extent ∷ []) i
 
--- the end of the one call, with the stamps that it left on one block
-pub record IsReadCall (script : Script) (job : Job) (read : ℕ) (stamps : List Stamp) (file : FileEnd) (end : CallEnd) : Type 0 where
-  pub named : are_named_once script (0 ∷ []) 0 read stamps ≡ true
-  pub here : are_answered script (end ∷ []) 0 read stamps ≡ true
-  pub elsewhere : (i : ℕ) → nat_eq i read ≡ false → are_answered script (end ∷ []) 0 i [] ≡ true
+-- the end of the one call, with the stamps that it left on the blocks that it met
+pub record IsReadCall (script : Script) (job : Job) (read : ℕ → Bool) (stamps : List Stamp) (file : FileEnd) (end : CallEnd) : Type 0 where
+  pub named : (i : ℕ) → read i ≡ true → are_named_once script (0 ∷ []) 0 i stamps ≡ true
+  pub here : (i : ℕ) → read i ≡ true → are_answered script (end ∷ []) 0 i stamps ≡ true
+  pub elsewhere : (i : ℕ) → read i ≡ false → are_answered script (end ∷ []) 0 i [] ≡ true
   pub caller_order : are_in_caller_order script stamps ≡ true
   pub phase_order : are_in_phase_order script stamps ≡ true
   pub marked : are_marked script (end ∷ []) stamps ≡ true
@@ -65,26 +65,26 @@ each_block-one test file f n is all =
     ap (λ blocks. each_from (test 0) 0 blocks && true) is
     ∙ ap (λ (t : Bool). t && true) (each_from-tabulated (test 0) f 0 n (λ i low high. all i (let within : i < n = omega arith in within)))
 
--- a test of the journals of the one file, whose stamps stand at one block
-journals : (test : ℕ → ℕ → List Stamp → Bool) (script : Script) (job : Job) (read : ℕ) (stamps : List Stamp) (file : FileEnd) → IsReadFile script job read stamps file
-    → test 0 read stamps ≡ true → ((i : ℕ) → nat_eq i read ≡ false → test 0 i [] ≡ true)
+-- a test of the journals of the one file, whose stamps stand at the blocks that were read
+journals : (test : ℕ → ℕ → List Stamp → Bool) (script : Script) (job : Job) (read : ℕ → Bool) (stamps : List Stamp) (file : FileEnd) → IsReadFile script job read stamps file
+    → ((i : ℕ) → read i ≡ true → test 0 i stamps ≡ true) → ((i : ℕ) → read i ≡ false → test 0 i [] ≡ true)
     → each_block (λ f b block. test f b block.journal) (file ∷ []) ≡ true
 journals test script job read stamps file is here elsewhere =
     each_block-one (λ f b block. test f b block.journal) file (read_end (device_bytes script) (mapped_in job) read stamps) job.blocks is.blocks
-    (λ i within. by_block (nat_eq i read) stamps (test 0 i) (λ t. ap (λ k. test 0 k stamps) (eqb-true i read t) ∙ here) (elsewhere i))
+    (λ i within. by_block (read i) stamps (test 0 i) (here i) (elsewhere i))
 
-lawful : (script : Script) (job : Job) (read : ℕ) (stamps : List Stamp) (file : FileEnd) (end : CallEnd) (free : List DeviceBlock) (lanes : List LaneEnd)
+lawful : (script : Script) (job : Job) (read : ℕ → Bool) (stamps : List Stamp) (file : FileEnd) (end : CallEnd) (free : List DeviceBlock) (lanes : List LaneEnd)
     → IsReadFile script job read stamps file → IsReadCall script job read stamps file end → IsLawfulJournal script (0 ∷ []) (one_run end file free lanes)
 lawful script job read stamps file end free lanes is call = record {
   named_once = journals (are_named_once script (0 ∷ [])) script job read stamps file is call.named (λ _ _. refl);
   answered = journals (are_answered script (end ∷ [])) script job read stamps file is call.here call.elsewhere;
-  in_caller_order = journals (λ _ _ sts. are_in_caller_order script sts) script job read stamps file is call.caller_order (λ _ _. refl);
-  in_phase_order = journals (λ _ _ sts. are_in_phase_order script sts) script job read stamps file is call.phase_order (λ _ _. refl);
-  failed_marks = journals (λ _ _ sts. are_marked script (end ∷ []) sts) script job read stamps file is call.marked (λ _ _. refl);
+  in_caller_order = journals (λ _ _ sts. are_in_caller_order script sts) script job read stamps file is (λ _ _. call.caller_order) (λ _ _. refl);
+  in_phase_order = journals (λ _ _ sts. are_in_phase_order script sts) script job read stamps file is (λ _ _. call.phase_order) (λ _ _. refl);
+  failed_marks = journals (λ _ _ sts. are_marked script (end ∷ []) sts) script job read stamps file is (λ _ _. call.marked) (λ _ _. refl);
 }
 
 -- the final contents, block by block
-contents : (name : Word) (job : Job) (given : List (ℕ × List ℕ)) (read : ℕ) (stamps : List Stamp) (file : FileEnd) (end : CallEnd) (free : List DeviceBlock) (lanes : List LaneEnd)
+contents : (name : Word) (job : Job) (given : List (ℕ × List ℕ)) (read : ℕ → Bool) (stamps : List Stamp) (file : FileEnd) (end : CallEnd) (free : List DeviceBlock) (lanes : List LaneEnd)
     → IsReadFile (script_of_job name job given) job read stamps file → IsReadCall (script_of_job name job given) job read stamps file end
     → IsFinalContent (script_of_job name job given) (one_run end file free lanes)
 contents name job given read stamps file end free lanes is call =
@@ -97,14 +97,14 @@ contents name job given read stamps file end free lanes is call =
     (λ i within.
     let opening : device_content size (mapped_number (kind_at file.extents i)) (sector_with content (mapped_in job i)) ≡ opening_content script 0 i =
     ap (λ k. device_content size (mapped_number k) (sector_with content (mapped_in job i))) (is.kinds i within) ∙ device_content-opening script (mapped_in job i) in
-    by_block (nat_eq i read) stamps
+    by_block (read i) stamps
     (λ sts. bytes_eq (device_content size (mapped_number (kind_at file.extents i)) (sector_with content (mapped_in job i))) (replayed script 0 i sts))
     (λ _. ap (λ bytes. bytes_eq bytes (replayed script 0 i stamps)) opening
     ∙ ap (λ bytes. bytes_eq (opening_content script 0 i) bytes) (call.silent i) ∙ bytes_eq-refl (opening_content script 0 i))
     (λ _. ap (λ bytes. bytes_eq bytes (opening_content script 0 i)) opening ∙ bytes_eq-refl (opening_content script 0 i)))
 
 -- the file fits: each block has a whole sector exactly where it is mapped
-file_fits : (name : Word) (job : Job) (given : List (ℕ × List ℕ)) (d read : ℕ) (stamps : List Stamp) (file : FileEnd)
+file_fits : (name : Word) (job : Job) (given : List (ℕ × List ℕ)) (d : ℕ) (read : ℕ → Bool) (stamps : List Stamp) (file : FileEnd)
     → IsShape job.device job.geometry job.blocks job.extent job.asked → list_all (is_whole job.device) given ≡ true → job.extent.kind ≡ Mapped d
     → IsReadFile (script_of_job name job given) job read stamps file
     → is_file_end job.geometry.block_size (one_file job.blocks job.extent) file ≡ true
@@ -126,7 +126,7 @@ file_fits name job given d read stamps file shape whole kind is =
     ap (λ (t : Bool). t && (is_merged_from 0 job.blocks file.extents && each_from (is_block_end size file.extents) 0 file.blocks)) many
     ∙ ap (λ (t : Bool). t && each_from (is_block_end size file.extents) 0 file.blocks) is.merged ∙ each
 
-fits : (name : Word) (job : Job) (given : List (ℕ × List ℕ)) (d read : ℕ) (stamps : List Stamp) (file : FileEnd) (end : CallEnd) (free : List DeviceBlock) (lanes : List LaneEnd)
+fits : (name : Word) (job : Job) (given : List (ℕ × List ℕ)) (d : ℕ) (read : ℕ → Bool) (stamps : List Stamp) (file : FileEnd) (end : CallEnd) (free : List DeviceBlock) (lanes : List LaneEnd)
     → IsShape job.device job.geometry job.blocks job.extent job.asked → list_all (is_whole job.device) given ≡ true → job.extent.kind ≡ Mapped d
     → IsReadFile (script_of_job name job given) job read stamps file → IsReadCall (script_of_job name job given) job read stamps file end
     → length lanes ≡ 17 → Fits (script_of_job name job given) (one_run end file free lanes)
@@ -139,7 +139,7 @@ fits name job given d read stamps file end free lanes shape whole kind is call m
 }
 
 -- a run of one read is right
-pub right_run : (name : Word) (job : Job) (given : List (ℕ × List ℕ)) (d read : ℕ) (stamps : List Stamp) (file : FileEnd) (end : CallEnd) (free : List DeviceBlock) (lanes : List LaneEnd)
+pub right_run : (name : Word) (job : Job) (given : List (ℕ × List ℕ)) (d : ℕ) (read : ℕ → Bool) (stamps : List Stamp) (file : FileEnd) (end : CallEnd) (free : List DeviceBlock) (lanes : List LaneEnd)
     → IsShape job.device job.geometry job.blocks job.extent job.asked → list_all (is_whole job.device) given ≡ true → job.extent.kind ≡ Mapped d
     → IsReadFile (script_of_job name job given) job read stamps file → IsReadCall (script_of_job name job given) job read stamps file end
     → length lanes ≡ 17 → RunIsRight (script_of_job name job given) (0 ∷ []) (one_run end file free lanes)
@@ -153,21 +153,22 @@ right_run name job given d read stamps file end free lanes shape whole kind is c
 }
 
 -- the end of a read that gave its whole range
-pub whole_read : (name : Word) (job : Job) (given : List (ℕ × List ℕ)) (b : ℕ) (file : FileEnd) (end : CallEnd) → IsAt job b
-    → IsReadFile (script_of_job name job given) job b (read_stamp ∷ []) file
+pub whole_read : (name : Word) (job : Job) (given : List (ℕ × List ℕ)) (b k : ℕ) (file : FileEnd) (end : CallEnd)
+    → IsShape job.device job.geometry job.blocks job.extent job.asked → list_all (is_whole job.device) given ≡ true → IsAt job b k
+    → IsReadFile (script_of_job name job given) job (is_among b k) (read_stamp ∷ []) file
     → end.answer.reply ≡ Ok job.asked.length Whole → end.pages ≡ [] → length end.got ≡ job.asked.length
-    → end.got ≡ take job.asked.length (drop (job.asked.off - b * job.geometry.block_size) (opening_content (script_of_job name job given) 0 b))
-    → IsReadCall (script_of_job name job given) job b (read_stamp ∷ []) file end
-whole_read name job given b file end at is reply pages many got =
+    → end.got ≡ take job.asked.length (drop (job.asked.off - b * job.geometry.block_size) (joined_from (opening_content (script_of_job name job given) 0) b k))
+    → IsReadCall (script_of_job name job given) job (is_among b k) (read_stamp ∷ []) file end
+whole_read name job given b k file end shape whole at is reply pages many got =
     let script = script_of_job name job given in
-    let f = read_end (device_bytes script) (mapped_in job) b (read_stamp ∷ []) in
+    let f = read_end (device_bytes script) (mapped_in job) (is_among b k) (read_stamp ∷ []) in
     let each : each_from (gives_block script 1 (one_call job.asked) end) 0 file.blocks ≡ true =
     ap (each_from (gives_block script 1 (one_call job.asked) end) 0) is.blocks
-    ∙ each_from-tabulated (gives_block script 1 (one_call job.asked) end) f 0 job.blocks (λ i low high. gives i (nat_eq i b) refl) in
+    ∙ each_from-tabulated (gives_block script 1 (one_call job.asked) end) f 0 job.blocks (λ i low high. gives i (is_among b k i) refl) in
     record {
-      named = named-here name job given b at;
-      here = answered-here name job given b end at reply;
-      elsewhere = λ i other. answered-elsewhere name job given i end (ap (λ r. is_answered script (one_call job.asked) r i) reply ∙ is_answered-elsewhere name job given b i at other);
+      named = λ i here. named-here name job given b k i at here;
+      here = λ i here. answered-here name job given b k i end at here reply;
+      elsewhere = λ i other. answered-elsewhere name job given i end (ap (λ r. is_answered script (one_call job.asked) r i) reply ∙ is_answered-elsewhere name job given b k i at other);
       caller_order = refl;
       phase_order = refl;
       marked = refl;
@@ -178,33 +179,32 @@ whole_read name job given b file end at is reply pages many got =
       pages = pages;
     }
   where
-    gives_in : ℕ → Type 0
-    gives_in k = gives_block (script_of_job name job given) 1 (one_call job.asked) end k (read_end (device_bytes (script_of_job name job given)) (mapped_in job) b (read_stamp ∷ []) k) ≡ true
+    block_at : ℕ → BlockEnd
+    block_at i = read_end (device_bytes (script_of_job name job given)) (mapped_in job) (is_among b k) (read_stamp ∷ []) i
 
-    gives : (i : ℕ) (t : Bool) → nat_eq i b ≡ t → gives_in i
+    gives : (i : ℕ) (t : Bool) → is_among b k i ≡ t → gives_block (script_of_job name job given) 1 (one_call job.asked) end i (block_at i) ≡ true
     gives i true here =
-        let stamped : (if nat_eq b b then read_stamp ∷ [] else []) ≡ read_stamp ∷ [] = ap (λ (t : Bool). if t then read_stamp ∷ [] else []) (eq-eqb b b refl) in
-        let there : gives_in b = gives-here name job given b end (read_end (device_bytes (script_of_job name job given)) (mapped_in job) b (read_stamp ∷ []) b) at reply stamped many got in
-        subst gives_in (sym (eqb-true i b here)) there
+        let stamped : (if is_among b k i then read_stamp ∷ [] else []) ≡ read_stamp ∷ [] = ap (λ (t : Bool). if t then read_stamp ∷ [] else []) here in
+        gives-here name job given b k i end (block_at i) shape whole at here reply stamped got
     gives i false other =
-        gives-elsewhere name job given i end (read_end (device_bytes (script_of_job name job given)) (mapped_in job) b (read_stamp ∷ []) i)
-        (ap (λ r. is_answered (script_of_job name job given) (one_call job.asked) r i) reply ∙ is_answered-elsewhere name job given b i at other)
+        gives-elsewhere name job given i end (block_at i)
+        (ap (λ r. is_answered (script_of_job name job given) (one_call job.asked) r i) reply ∙ is_answered-elsewhere name job given b k i at other)
 
 -- the end of a read that failed and gave nothing
-pub failed_read : (name : Word) (job : Job) (given : List (ℕ × List ℕ)) (b : ℕ) (file : FileEnd) (end : CallEnd) (fault : Fault)
-    → IsReadFile (script_of_job name job given) job b [] file → end.answer.reply ≡ Err fault 0 → is_again fault ≡ false → end.pages ≡ [] → end.got ≡ []
-    → IsReadCall (script_of_job name job given) job b [] file end
-failed_read name job given b file end fault is reply waited pages got =
+pub failed_read : (name : Word) (job : Job) (given : List (ℕ × List ℕ)) (read : ℕ → Bool) (file : FileEnd) (end : CallEnd) (fault : Fault)
+    → IsReadFile (script_of_job name job given) job read [] file → end.answer.reply ≡ Err fault 0 → is_again fault ≡ false → end.pages ≡ [] → end.got ≡ []
+    → IsReadCall (script_of_job name job given) job read [] file end
+failed_read name job given read file end fault is reply waited pages got =
     let script = script_of_job name job given in
-    let f = read_end (device_bytes script) (mapped_in job) b [] in
+    let f = read_end (device_bytes script) (mapped_in job) read [] in
     let nowhere : (i : ℕ) → is_answered script (one_call job.asked) end.answer.reply i ≡ false =
     λ i. ap (λ r. is_answered script (one_call job.asked) r i) reply ∙ is_answered-failed name job given fault i in
     let each : each_from (gives_block script 1 (one_call job.asked) end) 0 file.blocks ≡ true =
     ap (each_from (gives_block script 1 (one_call job.asked) end) 0) is.blocks
     ∙ each_from-tabulated (gives_block script 1 (one_call job.asked) end) f 0 job.blocks (λ i low high. gives-elsewhere name job given i end (f i) (nowhere i)) in
     record {
-      named = refl;
-      here = answered-elsewhere name job given b end (nowhere b);
+      named = λ i here. refl;
+      here = λ i here. answered-elsewhere name job given i end (nowhere i);
       elsewhere = λ i other. answered-elsewhere name job given i end (nowhere i);
       caller_order = refl;
       phase_order = refl;

@@ -12,7 +12,7 @@ use Rattle.iomap_replay.specs.declared.lines.Device.{Device}
 
 pub shape_from-made : (ls : List (List Word)) (n : ℕ) (device : Device) (folio : Layout) (f : Word × ℕ) (e : Extent) (a : Asked)
     → Some (device, folio) ≡ head_of (line_at ls 0) (line_at ls 1) (line_at ls 2)
-    → Some (f, e, a) ≡ tail_of device (line_at ls (n + 3)) (line_at ls (n + 4)) (line_at ls (n + 5)) (line_at ls (n + 6))
+    → Some (f, e, a) ≡ tail_of device folio.folio_blocks (line_at ls (n + 3)) (line_at ls (n + 4)) (line_at ls (n + 5)) (line_at ls (n + 6))
     → Some (device, folio, f, e, a) ≡ shape_from ls n
 shape_from-made ls n device folio f e a head tail = rw (← head) (rw (← tail) refl)
 

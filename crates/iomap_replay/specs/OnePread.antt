@@ -1,13 +1,13 @@
-use Rattle.std.specs.Prelude.{◌≡◌, ℕ, Bool, not, ◌&&◌, ◌==◌, nat_le, ◌+◌, ◌-◌, ◌/◌, ◌%◌, List, [], ◌∷◌, ◌++◌, Option, Some, length, slice_index_or, slice_range}
+use Rattle.std.specs.Prelude.{◌≡◌, ℕ, Bool, not, ◌&&◌, ◌==◌, nat_le, nat_lt, ◌+◌, ◌-◌, ◌/◌, List, [], ◌∷◌, ◌++◌, Option, Some, length, slice_index_or, slice_range}
 use Rattle.std.specs.List.{list_any, fold}
 use Rattle.iob_base.specs.Layout.{Layout, layout}
 use Rattle.iob_base.specs.declared.stamp.Mode.TheVariants.{Cached}
-use Rattle.io_model.specs.Kinds.{covers}
 use Rattle.io_model.specs.declared.file.Extent.{Extent}
 use Rattle.io_model.specs.declared.file.FileSpec.{FileSpec}
 use Rattle.io_model.specs.declared.script.Call.{Call}
 use Rattle.io_model.specs.declared.script.Script.{Script}
 use Rattle.io_model.specs.declared.script.Verb.TheVariants.{Pread}
+use Rattle.iomap_replay.specs.Facts.{first_block, last_block}
 use Rattle.iomap_replay.specs.Fields.{◌>>=◌, provided}
 use Rattle.iomap_replay.specs.Lines.{is_header, device_of, folio_of, file_of, extent_of, is_phase, pread_of, data_of}
 use Rattle.iomap_replay.specs.Words.{Word, kept_lines, is_ended}
@@ -21,9 +21,12 @@ TEXT_LIMIT = 16777216
 abbrev pub line_at : List (List Word) → ℕ → List Word
 line_at ls i = slice_index_or ls i []
 
--- the range lies in the extent and in one block
-abbrev pub is_in_one_block : ℕ → Extent → Asked → Bool
-is_in_one_block size extent asked = covers extent (asked.off / size) && nat_le (asked.off % size + asked.length) size
+-- the range lies in the extent and in one folio, and meets at most 16 blocks
+abbrev pub is_in_one_folio : ℕ → ℕ → Extent → Asked → Bool
+is_in_one_folio size folio extent asked =
+    let first = first_block size asked in
+    let last = last_block size asked in
+    nat_le extent.block first && (nat_lt last (extent.block + extent.length) && (nat_lt last (first + 16) && first / folio == last / folio))
 
 -- all but the data lines, of which there are as many as lines beyond seven: the device, the blocks of
 -- a folio, the file's name and blocks, its extent, and the range that is read
@@ -38,17 +41,17 @@ head_of header device folio = do
   Some (d, layout d.block_size n)
 
 -- the last four lines: the file, its extent, the phase and the read
-abbrev pub tail_of : Device → List Word → List Word → List Word → List Word → Option ((Word × ℕ) × Extent × Asked)
-tail_of device file extent phase call = do
+abbrev pub tail_of : Device → ℕ → List Word → List Word → List Word → List Word → Option ((Word × ℕ) × Extent × Asked)
+tail_of device folio file extent phase call = do
   f ← file_of file
   e ← extent_of f.0 f.1 device.blocks extent
   a ← provided (is_phase phase) (pread_of f.0 call)
-  provided (is_in_one_block device.block_size e a) (Some (f, e, a))
+  provided (is_in_one_folio device.block_size folio e a) (Some (f, e, a))
 
 abbrev pub shape_from : List (List Word) → ℕ → Option Shape
 shape_from ls n = do
   head ← head_of (line_at ls 0) (line_at ls 1) (line_at ls 2)
-  tail ← tail_of head.0 (line_at ls (n + 3)) (line_at ls (n + 4)) (line_at ls (n + 5)) (line_at ls (n + 6))
+  tail ← tail_of head.0 head.1.folio_blocks (line_at ls (n + 3)) (line_at ls (n + 4)) (line_at ls (n + 5)) (line_at ls (n + 6))
   Some (head.0, head.1, tail.0, tail.1, tail.2)
 
 abbrev pub shape_of : List (List Word) → Option Shape
@@ -90,7 +93,7 @@ script_of_lines ls = do
   blocks ← data_blocks s.0 (slice_range ls 3 (length ls - 4))
   Some (script_with s blocks)
 
--- the script of a text of the one form that is read: a read of one block of one mapped extent
+-- the script of a text of the one form that is read: a read of a run of blocks of one mapped extent
 abbrev pub script_of : List ℕ → Option Script
 script_of text = provided (nat_le (length text) TEXT_LIMIT && is_ended text) (script_of_lines (kept_lines text))
 

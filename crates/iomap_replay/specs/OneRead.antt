@@ -1,24 +1,44 @@
-use Rattle.std.specs.Prelude.{◌≡◌, ℕ, ◌-◌, ◌*◌, ◌/◌, false, List, [], ◌∷◌, length, take, drop}
+use Rattle.std.specs.Prelude.{◌≡◌, ℕ, zero, suc, ◌+◌, ◌-◌, ◌*◌, false, List, [], ◌∷◌, ◌++◌, length, map, take, drop, replicate}
 use Rattle.std.specs.Bool.{MatchBool}
+use Rattle.std.specs.List.{concat}
 use Rattle.iob_base.specs.declared.answer.Fault.{Fault}
 use Rattle.iob_base.specs.declared.answer.Fault.TheVariants.{Eio}
 use Rattle.iob_base.specs.declared.answer.Reply.TheVariants.{Ok, Err}
 use Rattle.iob_base.specs.declared.answer.Stop.TheVariants.{Whole}
+use Rattle.iob_base.specs.declared.sector.Page.{Page}
 use Rattle.iob_base.specs.declared.stamp.Mode.TheVariants.{Cached}
-use Rattle.io_model.specs.Contents.{device_bytes, opening_content}
+use Rattle.io_model.specs.Contents.{Content, device_bytes, opening_content}
 use Rattle.io_model.specs.Fitting.{is_again}
 use Rattle.io_model.specs.RunText.{is_error}
 use Rattle.io_model.specs.declared.run.CallEnd.{CallEnd}
 use Rattle.io_model.specs.declared.script.Script.{Script}
 use Rattle.iomap_replay.specs.Devices.{blocks_with, first_number}
+use Rattle.iomap_replay.specs.Facts.{first_block, blocks_met}
 use Rattle.iomap_replay.specs.Runs.{read_stamp}
 use Rattle.iomap_replay.specs.declared.script.Job.{Job}
 use Rattle.range_core.specs.Events.{with_stamps}
 use Rattle.range_core.specs.RangeView.{RangeView, range_of}
+use Rattle.range_core.specs.Stamps.{stamps_from}
 
--- the block in which the range of the call lies
+-- the block in which the range of the call begins, and how many blocks it meets
 abbrev pub block_of : Job → ℕ
-block_of job = job.asked.off / job.device.block_size
+block_of job = first_block job.device.block_size job.asked
+
+abbrev pub count_of : Job → ℕ
+count_of job = blocks_met job.device.block_size job.asked
+
+-- the contents of so many blocks from one on, joined
+abbrev pub joined_from : (ℕ → Content) → ℕ → ℕ → Content
+joined_from content b zero = []
+joined_from content b (suc n) = content b ++ joined_from content (b + 1) n
+
+-- a page of zeros
+abbrev pub blank : ℕ → Page
+blank size = record { number = 0; bytes = replicate size 0 }
+
+-- the bytes of pages, joined
+abbrev pub bytes_of : List Page → List ℕ
+bytes_of pages = concat (map (λ p. p.bytes) pages)
 
 -- the range of the one file before the call
 abbrev pub opened_range : Script → Job → RangeView
@@ -30,14 +50,14 @@ abbrev pub bios_of : Fault → ℕ
 bios_of (Eio _ _ _) = 1
 bios_of _ = 0
 
--- the read gave its whole range, and left one stamp on its block
+-- the read gave its whole range by one transfer, and left one stamp on each block that it met
 pub record GaveRange (script : Script) (job : Job) (end : CallEnd) (old new : RangeView) : Type 0 where
   pub reply : end.answer.reply ≡ Ok job.asked.length Whole
   pub bios : end.answer.bios ≡ 1
   pub many : length end.got ≡ job.asked.length
-  pub got : end.got ≡ take job.asked.length (drop (job.asked.off - block_of job * job.geometry.block_size) (opening_content script 0 (block_of job)))
+  pub got : end.got ≡ take job.asked.length (drop (job.asked.off - block_of job * job.geometry.block_size) (joined_from (opening_content script 0) (block_of job) (count_of job)))
   pub pages : end.pages ≡ []
-  pub left : new ≡ with_stamps old ((block_of job, read_stamp) ∷ [])
+  pub left : new ≡ with_stamps old (stamps_from (block_of job) (count_of job) read_stamp)
 
 -- the read failed, gave nothing and left all as it was
 pub record GaveNothing (end : CallEnd) (old new : RangeView) : Type 0 where

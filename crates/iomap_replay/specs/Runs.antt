@@ -1,4 +1,4 @@
-use Rattle.std.specs.Prelude.{ℕ, zero, suc, ◌+◌, ◌==◌, List, [], ◌∷◌, Option, Some, None, if◌then◌else◌}
+use Rattle.std.specs.Prelude.{ℕ, zero, suc, ◌+◌, Bool, ◌&&◌, nat_le, nat_lt, List, [], ◌∷◌, Option, Some, None, if◌then◌else◌}
 use Rattle.iob_base.specs.DeviceBlock.{DeviceBlock, device_block}
 use Rattle.iob_base.specs.declared.answer.Answer.{Answer}
 use Rattle.iob_base.specs.declared.answer.Reply.TheVariants.{Ok}
@@ -35,9 +35,13 @@ abbrev pub sector_with : (ℕ → Content) → Option ℕ → Option DeviceBlock
 sector_with content None = None
 sector_with content (Some d) = Some (device_block d (content d))
 
--- the end of a block that was only read: its sector as it was, and stamps at one block alone
-abbrev pub read_end : (ℕ → Content) → (ℕ → Option ℕ) → ℕ → List Stamp → ℕ → BlockEnd
-read_end content mapped read stamps b = record { sector = sector_with content (mapped b); dirty = None; journal = if b == read then stamps else [] }
+-- a block is one of so many from one on
+abbrev pub is_among : ℕ → ℕ → ℕ → Bool
+is_among first n b = nat_le first b && nat_lt b (first + n)
+
+-- the end of a block that was only read: its sector as it was, and stamps where it was read
+abbrev pub read_end : (ℕ → Content) → (ℕ → Option ℕ) → (ℕ → Bool) → List Stamp → ℕ → BlockEnd
+read_end content mapped read stamps b = record { sector = sector_with content (mapped b); dirty = None; journal = if read b then stamps else [] }
 
 -- the end of a file that is one range
 abbrev pub file_of_range : RangeEnd → FileEnd

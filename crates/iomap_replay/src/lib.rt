@@ -1,6 +1,7 @@
 //! The call that replays a script: from its bytes to the printed bytes of its run.
 #![tactic(auto)]
 
+mod blocks;
 mod bytes;
 mod device;
 mod fields;

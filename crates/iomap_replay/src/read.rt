@@ -1,13 +1,14 @@
 //! The one read.
-ghost use Rattle.std.specs.Prelude.{◌≡◌, ◌-◌, ◌*◌, ◌/◌, ◌%◌, ◌+◌, ◌≤◌, false, [], ◌∷◌, IfOk, length, take, drop, replicate};
+ghost use Rattle.std.specs.Prelude.{◌≡◌, ◌-◌, ◌*◌, ◌/◌, ◌%◌, ◌+◌, ◌≤◌, false, [], ◌∷◌, All, IfOk, length, take, drop, replicate};
 ghost use Rattle.io_model.specs.Fitting.{is_again};
 ghost use Rattle.iob_base.specs.declared.answer.Reply.TheVariants.{Err as Failed};
 ghost use Rattle.iomap_replay.specs.Causes.{IsCausedReply};
 ghost use Rattle.iomap_replay.specs.Jobs.{IsJobOf};
-ghost use Rattle.iomap_replay.specs.OneRead.{opened_range, IsOutcome, IsWholeEnd};
+ghost use Rattle.iomap_replay.specs.OneRead.{blank, bytes_of, opened_range, IsOutcome, IsWholeEnd};
 ghost use Rattle.fault_device.specs.LaneView.{lane_seen};
 ghost use Rattle.fault_device.specs.Opening.{Opening, Serves};
 
+use crate::blocks::{begin_of, count_of};
 use crate::script::Job;
 use arrayvec::ArrayVec;
 use fault_device::Lane;
@@ -18,13 +19,25 @@ use std::alloc::{AllocError, Global};
 
 /// A page of zeros, of a block's length. Want of memory is the only error.
 fn blank_page(alloc: Global, size: u32) -> Result<Page, AllocError>
-    ensures { IfOk result (λ p. p.bytes ≡ replicate size 0) }
+    ensures { IfOk result (λ p. p ≡ blank size) }
 {
     let bytes = vec![in alloc; 0u8; size as usize]?;
     Ok(Page {
         number: 0,
         bytes: Items::from_vec(bytes),
     })
+}
+
+/// So many pages of zeros, as one transfer takes. Want of memory is the only error.
+fn blank_pages(alloc: Global, size: u32, n: usize) -> Result<Pages, AllocError>
+    requires { n ≤ 16 }
+    ensures { IfOk result (λ pages. pages.items ≡ replicate n (blank size)) }
+{
+    let mut pages: Pages = ArrayVec::new_in(alloc);
+    for _ in 0..n {
+        pages.push(blank_page(alloc, size)?);
+    }
+    Ok(pages)
 }
 
 /// The end of a read that failed.
@@ -44,12 +57,32 @@ fn failed_end(alloc: Global, fault: Fault, bios: u64) -> CallEnd
     }
 }
 
-/// The end of a read whose range begins at a place of these bytes. Want of memory is the only error.
-fn whole_end(alloc: Global, bytes: &[u8], place: usize, n: usize) -> Result<CallEnd, AllocError>
-    requires { place + n ≤ length bytes.now }
-    ensures { IfOk result (λ end. IsWholeEnd end n (take n (drop place bytes.now))) }
+/// So many bytes of these pages, joined, from a place of the first page on. Want of memory is the only
+/// error.
+fn bytes_from(alloc: Global, pages: &[Page], place: usize, n: usize) -> Result<Vec<u8>, AllocError>
+    requires { All (λ p. place ≤ length p.bytes) pages.now }
+    ensures { IfOk result (λ bytes. bytes.items ≡ take n (drop place (bytes_of pages.now))) }
 {
-    let got = Items::from_slice(alloc, &bytes[place..place + n])?;
+    let mut bytes = Vec::new(alloc);
+    let [first, others @ ..] = pages else {
+        return Ok(bytes);
+    };
+    bytes.extend_from_slice(&first.bytes.as_slice()[place..])?;
+    for page in others {
+        bytes.extend_from_slice(page.bytes.as_slice())?;
+    }
+    bytes.truncate(n);
+    Ok(bytes)
+}
+
+/// The end of a read whose range begins at a place of the first of these pages. Want of memory is the
+/// only error.
+fn whole_end(alloc: Global, pages: &[Page], place: usize, n: usize) -> Result<CallEnd, AllocError>
+    requires begins { All (λ p. place ≤ length p.bytes) pages.now }
+    requires ends { place + n ≤ length (bytes_of pages.now) }
+    ensures { IfOk result (λ end. IsWholeEnd end n (take n (drop place (bytes_of pages.now)))) }
+{
+    let got = bytes_from(alloc, pages, place, n)?;
     Ok(CallEnd {
         answer: Answer {
             reply: Reply::Ok {
@@ -58,7 +91,7 @@ fn whole_end(alloc: Global, bytes: &[u8], place: usize, n: usize) -> Result<Call
             },
             bios: 1,
         },
-        got,
+        got: Items::from_vec(got),
         pages: Items::new(alloc),
     })
 }
@@ -78,19 +111,13 @@ pub fn read_once(
         → IfOk result (λ end. IsCausedReply o (lane_seen count tells lane.old).number end.answer.reply) }
 {
     let size = job.device.block_size;
-    let mut pages: Pages = ArrayVec::new_in(alloc);
-    pages.push(blank_page(alloc, size)?);
-    let block = job.asked.off / u64::from(size);
+    let block = begin_of(size, &job.asked);
+    let mut pages = blank_pages(alloc, size, count_of(size, &job.asked))?;
     let by = Tag { caller: 0, call: 1 };
     match range.direct_now(by, lane, block, &mut pages) {
         Ok(_) => {
             let place = (job.asked.off % u64::from(size)) as usize;
-            whole_end(
-                alloc,
-                pages.as_slice()[0].bytes.as_slice(),
-                place,
-                job.asked.length as usize,
-            )
+            whole_end(alloc, pages.as_slice(), place, job.asked.length as usize)
         }
         Err(EventFault::Poison { done }) => {
             let fault = Fault::Eio {

@@ -3,11 +3,12 @@ ghost use Rattle.std.specs.Prelude.{◌≡◌, ◌≤◌, true, IfOk, IfSome, Is
 ghost use Rattle.std.specs.Option.{option_map};
 ghost use Rattle.iob_base.specs.Geometry.{is_block_size, is_folio_blocks};
 ghost use Rattle.iob_base.specs.Layout.{layout};
-ghost use Rattle.iomap_replay.specs.Facts.{IsDevice, LiesInBlock, IsTail, IsShape};
-ghost use Rattle.iomap_replay.specs.OnePread.{head_of, tail_of, shape_of, is_in_one_block, script_of_lines, script_of};
+ghost use Rattle.iomap_replay.specs.Facts.{IsDevice, IsTail, IsShape};
+ghost use Rattle.iomap_replay.specs.OnePread.{head_of, tail_of, shape_of, script_of_lines, script_of};
 ghost use Rattle.iomap_replay.specs.Jobs.{shape_of_job, script_of_job, IsJobOf};
 ghost use Rattle.iomap_replay.specs.Words.{words};
 
+use crate::blocks::lies_in_one_folio;
 use crate::bytes::data_list;
 use crate::lines::{
     Asked, Device, device_line, extent_line, file_line, folio_line, is_header_line, is_phase_line,
@@ -29,20 +30,6 @@ pub struct Job {
     pub blocks: u64,
     pub extent: Extent,
     pub asked: Asked,
-}
-
-/// Whether the range lies in the extent and in one block.
-fn lies_in_one_block(block_size: u32, extent: &Extent, asked: &Asked) -> bool
-    requires { IsTrue (is_block_size block_size) }
-    ensures value { result ≡ is_in_one_block block_size extent.now asked.now }
-    ensures facts { 1 ≤ asked.now.length → result ≡ true → LiesInBlock block_size extent.now asked.now }
-{
-    let size = u64::from(block_size);
-    let block = asked.off / size;
-    if block < extent.block || block - extent.block >= extent.length {
-        return false;
-    }
-    asked.length <= size && asked.off % size + asked.length <= size
 }
 
 /// The geometry of sizes that were tried already.
@@ -70,15 +57,17 @@ fn head(header: &[u8], device: &[u8], folio: &[u8]) -> Option<(Device, Geometry)
 /// The last four lines: the file, its extent, the phase and the read.
 fn tail<'a>(
     device: Device,
+    folio: u32,
     file: &'a [u8],
     extent: &[u8],
     phase: &[u8],
     call: &[u8],
 ) -> Option<((&'a [u8], u64), Extent, Asked)>
-    requires { IsTrue (is_block_size device.block_size) }
+    requires size { IsTrue (is_block_size device.block_size) }
+    requires folio { IsTrue (is_folio_blocks folio) }
     ensures value { option_map (λ t. ((t.0.0.now, t.0.1), t.1, t.2)) result
-        ≡ tail_of device (words file.now) (words extent.now) (words phase.now) (words call.now) }
-    ensures facts { IfSome result (λ t. IsTail device t.0.1 t.1 t.2) }
+        ≡ tail_of device folio (words file.now) (words extent.now) (words phase.now) (words call.now) }
+    ensures facts { IfSome result (λ t. IsTail device folio t.0.1 t.1 t.2) }
 {
     let (name, blocks) = file_line(file)?;
     let extent = extent_line(name, blocks, device.blocks, extent)?;
@@ -86,7 +75,7 @@ fn tail<'a>(
         return None;
     }
     let asked = pread_line(name, call)?;
-    if !lies_in_one_block(device.block_size, &extent, &asked) {
+    if !lies_in_one_folio(device.block_size, folio, &extent, &asked) {
         return None;
     }
     Some(((name, blocks), extent, asked))
@@ -105,6 +94,7 @@ fn shape<'a>(lines: &[&'a [u8]]) -> Option<(&'a [u8], Job)>
     let (device, geometry) = head(lines[0], lines[1], lines[2])?;
     let (file, extent, asked) = tail(
         device,
+        geometry.folio_blocks(),
         lines[n + 3],
         lines[n + 4],
         lines[n + 5],

@@ -146,8 +146,8 @@ fn replay_source<S: Source, K: Sink>(
 /// the closing sync. `words` are those of the command, without the program's name.
 ///
 /// Read so far are scripts with any number of `data` lines, one cached file with one mapped extent, and
-/// one `pread` of caller 0 whose range lies in one block of that extent. Every other text is refused by
-/// the line `refused line 0 cause 14 NotYet`.
+/// one `pread` of caller 0 whose range lies in that extent and in one folio and meets at most 16 blocks.
+/// Every other text is refused by the line `refused line 0 cause 14 NotYet`.
 ///
 /// | Status | When |
 /// |---|---|

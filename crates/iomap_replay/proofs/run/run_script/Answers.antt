@@ -2,7 +2,7 @@ use Rattle.std.proofs.Common.{◌≡◌, suc, [], ◌∷◌, length, sym, ◌∙
 use Rattle.iob_base.specs.declared.stamp.Mode.TheVariants.{Cached}
 use Rattle.io_model.specs.Right.{RunIsRight}
 use Rattle.io_model.specs.declared.run.Run.{Run}
-use Rattle.iomap_replay.proofs.OneBlock.{if_ok}
+use Rattle.iomap_replay.proofs.ReadRun.{if_ok}
 use Rattle.iomap_replay.proofs.Outcome.{right_from_outcome}
 use Rattle.iomap_replay.specs.OneRead.{opened_range, IsOutcome}
 use Rattle.iomap_replay.specs.Runs.{one_run, file_of_range}

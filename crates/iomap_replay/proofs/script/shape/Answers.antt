@@ -15,5 +15,5 @@ returns-clause-value c =
     let made : Some (c.in_ok-device.device, c.in_ok-device.geometry, (c.in_ok-file.file.0.now, c.in_ok-file.file.1), c.in_ok-file.extent, c.in_ok-file.asked)
     ≡ shape_from (map f c.args.lines.now) n =
     shape_from-made (map f c.args.lines.now) n _ _ _ _ _ (rw (at 0, at 1, at 2) c.in_ok-device.ensures.value)
-    (rw (at (n + 3), at (n + 4), at (n + 5), at (n + 6)) c.in_ok-file.ensures.value) in
+    (rw (at (n + 3), at (n + 4), at (n + 5), at (n + 6), ← c.folio_blocks.ensures.value) c.in_ok-file.ensures.value) in
     grind (arith, common_steps, made)
