@@ -1,2 +1,15 @@
 pub mod Appending
+pub mod Calling
+pub mod Causes
+pub mod Grammar
+pub mod GrammarCalls
+pub mod GrammarKinds
+pub mod GrammarLines
+pub mod GrammarNumbers
+pub mod GrammarWords
 pub mod Image
+pub mod Marks
+pub mod Reading
+pub mod Seen
+pub mod SoFar
+pub mod Texts

@@ -1,4 +1,4 @@
-//! The printed form of a run: one text for one run.
+//! The written form of a script, and the printed form of a run: one text for one run.
 #![tactic(auto)]
 
 mod calls;
@@ -7,7 +7,9 @@ mod hexadecimal;
 mod image;
 mod pages;
 mod pieces;
+mod read;
 mod reply;
 mod run;
 
+pub use read::{Cause, ScriptFault, read_script};
 pub use run::print_run;
