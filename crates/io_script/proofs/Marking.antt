@@ -1,7 +1,6 @@
 -- Marks of numbers that pass a test.
-use Rattle.std.proofs.Common.{◌≡◌, ℕ, zero, suc, ◌+◌, ◌<◌, ◌≤◌, Bool, true, false, ◌||◌, ◌&&◌, nat_le, nat_lt, nat_eq, List, [], ◌∷◌, length, take, drop, get_or, set, replicate, refl, arith, drop-cons, add-one}
+use Rattle.std.proofs.Common.{◌≡◌, ℕ, zero, suc, ◌+◌, ◌<◌, ◌≤◌, Bool, false, List, ◌∷◌, length, take, drop, get_or, refl, arith, drop-cons, add-one}
 use Rattle.std.specs.List.{list_any, range_with_len}
-use Rattle.std.proofs.lemmas.Grind.{common_steps}
 
 pub any-marks : (marks : List Bool) (test : ℕ → Bool) (n low : ℕ) → low + n ≤ length marks → ((i : ℕ) → i < length marks → get_or marks i false ≡ test i)
     → list_any (λ b. b) (take n (drop low marks)) ≡ list_any test (range_with_len low n)

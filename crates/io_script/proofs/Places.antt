@@ -1,6 +1,6 @@
 -- Which blocks are taken, once a line was added.
 use Rattle.std.proofs.Common.{◌≡◌, ◌≢◌, ℕ, zero, suc, ◌+◌, ◌*◌, ◌/◌, ◌%◌, ◌<◌, ◌≤◌, Bool, true, false, ◌||◌, ◌&&◌, nat_le, nat_lt, nat_eq, List, [], ◌∷◌, ◌++◌, length, get_or, set, refl, sym, ap, ◌∙◌, subst, arith, ◌-◌}
-use Rattle.std.specs.List.{list_any, range_with_len}
+use Rattle.std.specs.List.{list_any}
 use Rattle.std.proofs.Math.ListN.{get_or-append}
 use Rattle.std.proofs.Math.Seq.{get_or-append_right}
 use Rattle.std.proofs.lemmas.List.{get_or-set_same, get_or-set_other, length-set, length-append}
@@ -12,7 +12,7 @@ use Rattle.io_model.specs.declared.file.Extent.{Extent}
 use Rattle.io_model.specs.declared.file.FileSpec.{FileSpec}
 use Rattle.io_script.specs.GrammarLines.{with_extent_at}
 use Rattle.io_script.specs.Marks.{AreMarks, is_in_run, some_from}
-use Rattle.io_script.specs.Reading.{PLACES, is_place_taken}
+use Rattle.io_script.specs.Reading.{is_place_taken}
 use Rattle.io_script.specs.SoFar.{file_at, no_file, is_taken, is_placed, is_given, covers_on_device, device_start}
 
 -- marks of one test are marks of another that is the same below their number

@@ -1,8 +1,9 @@
 -- The walk over the lines of a text.
 use Rattle.std.proofs.Common.{◌≡◌, ℕ, ◌+◌, ◌<◌, ◌≤◌, Bool, true, false, List, [], ◌∷◌, ◌++◌, Option, Some, None, Err, length, map, refl, sym, ap, ◌∙◌, append_assoc, append-nil, subst, arith, nat_eq, nat_lt, cond}
-use Rattle.std.specs.List.{filter, fold, slice_split, onto_first}
+use Rattle.std.specs.List.{filter, fold, onto_first}
 use Rattle.std.proofs.lemmas.Bool.{le-ltb}
-use Rattle.io_script.specs.Grammar.{IsScript, IsFaultOf, IsRefusal, refusal_of, refusal_from, at_line, so_far, with_piece, next_said, with_line, line_cause, last_cause, end_cause, kept_lines, TEXT_LIMIT}
+use Rattle.io_script.specs.Checking.{IsChecked}
+use Rattle.io_script.specs.Grammar.{IsFaultOf, IsRefusal, refusal_of, refusal_from, at_line, so_far, with_piece, next_said, with_line, line_cause, last_cause, end_cause, kept_lines, TEXT_LIMIT}
 use Rattle.io_script.specs.GrammarWords.{Word, words, pieces, is_kept, fields_of}
 use Rattle.io_script.specs.Reading.{said, IsReader, Takes, IsFaultAt}
 use Rattle.io_script.specs.SoFar.{SoFar, nothing, script_so_far}
@@ -12,6 +13,7 @@ use Rattle.io_script.specs.declared.read.cause.ScriptFault.TheVariants.{Refused,
 use Rattle.io_script.specs.declared.read.reader.LineFault.{LineFault}
 use Rattle.io_script.specs.declared.read.reader.LineFault.TheVariants.{Because, NoMemory}
 use Rattle.io_script.specs.declared.read.reader.Reader.{Reader}
+use Rattle.io_script.specs.declared.read.script.Checked.{Checked}
 
 -- how far a reader has come with a text: what is left of it, and the number of the next line
 pub record HasCome (text left : List ℕ) (line : ℕ) (r : Reader) : Type 0 where
@@ -111,12 +113,17 @@ refused_end text left n r cause short h e is =
     refusal_of-lines text short ∙ sym (last_refusal text left n r h e) ∙ ap (λ o. at_line n o None) is
 
 -- nothing is wrong
-pub is_script : (text left : List ℕ) (n : ℕ) (r : Reader) → length text ≤ TEXT_LIMIT → HasCome text left n r → pieces 10 left ≡ left ∷ []
-    → left ≡ [] → end_cause (said r) ≡ None → IsScript text (script_so_far (said r))
-is_script text left n r short h e empty none = record {
-  not_refused = refusal_of-lines text short ∙ sym (last_refusal text left n r h e) ∙ ap (λ l. at_line n (last_cause (said r) l) None) empty ∙ ap (λ o. at_line n o None) none;
-  said = ap script_so_far (h.read ∙ ap so_far (sym (append-nil h.earlier) ∙ sym (ap (λ l. h.earlier ++ kept_lines l) empty) ∙ h.lines));
-}
+pub is_checked : (text left : List ℕ) (n : ℕ) (r : Reader) (checked : Checked) → length text ≤ TEXT_LIMIT → HasCome text left n r → pieces 10 left ≡ left ∷ []
+    → left ≡ [] → end_cause (said r) ≡ None → checked.script ≡ script_so_far (said r) → checked.phases ≡ (said r).phases → IsChecked text checked
+is_checked text left n r checked short h e empty none script phases =
+    let whole : said r ≡ so_far (kept_lines text) = h.read ∙ ap so_far (sym (append-nil h.earlier) ∙ sym (ap (λ l. h.earlier ++ kept_lines l) empty) ∙ h.lines) in
+    record {
+      script = record {
+        not_refused = refusal_of-lines text short ∙ sym (last_refusal text left n r h e) ∙ ap (λ l. at_line n (last_cause (said r) l) None) empty ∙ ap (λ o. at_line n o None) none;
+        said = script ∙ ap script_so_far whole;
+      };
+      phases = phases ∙ ap (λ s. s.phases) whole;
+    }
 
 -- a line that was not taken refuses the text, or there was no memory
 pub refused_fault : (text left line after : List ℕ) (n : ℕ) (r now : Reader) (then : SoFar) (fault : LineFault) (out : ScriptFault) → length text ≤ TEXT_LIMIT

@@ -1,4 +1,4 @@
-use Rattle.std.specs.Prelude.{◌≡◌, ℕ, ◌+◌, ◌≤◌, Bool, true, false, ◌||◌, nat_le, nat_lt, ◌*◌, ◌<◌, List, [], ◌∷◌, ◌++◌, min, length, Option, Some, None}
+use Rattle.std.specs.Prelude.{◌≡◌, ℕ, ◌+◌, ◌≤◌, Bool, true, false, ◌||◌, nat_le, nat_lt, ◌*◌, ◌<◌, [], ◌∷◌, ◌++◌, min, length, Option, Some, None}
 use Rattle.io_model.specs.declared.script.Call.{Call}
 use Rattle.io_script.specs.GrammarCalls.{shape_of, sizes_of, read_by, written_by, asked_in, length_in, blocks_between, pages_of, blocks_named}
 use Rattle.io_script.specs.GrammarLines.{is_no_file, file_named}

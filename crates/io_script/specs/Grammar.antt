@@ -1,4 +1,4 @@
-use Rattle.std.specs.Prelude.{◌≡◌, ℕ, Bool, true, false, not, ◌&&◌, nat_lt, ◌+◌, List, [], ◌∷◌, ◌++◌, Option, Some, None, ⊤, length, codes, map, if◌then◌else◌}
+use Rattle.std.specs.Prelude.{◌≡◌, ℕ, Bool, not, ◌&&◌, nat_lt, ◌+◌, List, [], ◌∷◌, ◌++◌, Option, Some, None, ⊤, length, codes, map, if◌then◌else◌}
 use Rattle.std.specs.List.{filter, fold}
 use Rattle.std.specs.Str.{bytes_eq}
 use Rattle.io_model.specs.declared.script.Script.{Script}

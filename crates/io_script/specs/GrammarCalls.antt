@@ -1,4 +1,4 @@
-use Rattle.std.specs.Prelude.{ℕ, Bool, true, false, not, ◌&&◌, ◌||◌, ◌==◌, nat_le, nat_lt, ◌+◌, ◌-◌, ◌*◌, ◌/◌, min, List, [], ◌∷◌, ◌++◌, Option, Some, None, length, map, is_some, unwrap_or, if◌then◌else◌}
+use Rattle.std.specs.Prelude.{ℕ, Bool, true, false, not, ◌&&◌, ◌||◌, nat_le, nat_lt, ◌+◌, ◌-◌, ◌*◌, ◌/◌, min, List, [], ◌∷◌, ◌++◌, Option, Some, None, length, map, is_some, if◌then◌else◌}
 use Rattle.std.specs.List.{list_all, sum}
 use Rattle.iob_base.specs.declared.stamp.Mode.{Mode}
 use Rattle.iob_base.specs.declared.stamp.Mode.TheVariants.{Cached, Dax}

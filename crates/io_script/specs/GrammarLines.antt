@@ -1,4 +1,4 @@
-use Rattle.std.specs.Prelude.{ℕ, Bool, true, false, not, ◌&&◌, ◌||◌, ◌==◌, nat_le, nat_lt, ◌+◌, ◌-◌, ◌*◌, List, [], ◌∷◌, ◌++◌, Option, Some, None, length, codes, is_some, unwrap_or, position, slice_set, if◌then◌else◌}
+use Rattle.std.specs.Prelude.{ℕ, Bool, not, ◌&&◌, ◌||◌, ◌==◌, nat_le, nat_lt, ◌+◌, ◌*◌, List, [], ◌∷◌, ◌++◌, Option, Some, None, length, codes, is_some, unwrap_or, position, slice_set, if◌then◌else◌}
 use Rattle.std.specs.Str.{bytes_eq}
 use Rattle.iob_base.specs.Geometry.{is_block_size, is_folio_blocks}
 use Rattle.iob_base.specs.Layout.{Layout, layout}
@@ -17,7 +17,7 @@ use Rattle.io_script.specs.declared.read.cause.Cause.{Cause}
 use Rattle.io_script.specs.declared.read.cause.Cause.TheVariants.{BadWord, BadOrder, BadCount, BadNumber, BadBytes, BadName, BadBlock, Overlap, TooMuch}
 use Rattle.io_script.specs.declared.read.kinds.State.{State}
 use Rattle.io_script.specs.declared.read.kinds.State.TheVariants.{Written, Fresh}
-use Rattle.io_script.specs.declared.read.stage.Stage.TheVariants.{Device, Folio, Files, Calls}
+use Rattle.io_script.specs.declared.read.stage.Stage.TheVariants.{Folio, Files, Calls}
 
 abbrev pub has_words : ℕ → Fields → Bool
 has_words n w = w.count == n

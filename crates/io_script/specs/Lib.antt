@@ -1,6 +1,8 @@
 pub mod Appending
 pub mod Calling
 pub mod Causes
+pub mod CheckText
+pub mod Checking
 pub mod Grammar
 pub mod GrammarCalls
 pub mod GrammarKinds

@@ -1,4 +1,4 @@
-use Rattle.std.specs.Prelude.{◌≡◌, ℕ, Bool, true, false, ◌<◌, ◌≤◌, ◌*◌, ◌/◌, ◌%◌, List, [], Option, Some, None, Result, Ok, Err, ⊤, length, slice_index_or}
+use Rattle.std.specs.Prelude.{◌≡◌, ℕ, Bool, true, false, ◌≤◌, ◌*◌, ◌/◌, ◌%◌, List, [], Option, Some, None, Result, Ok, Err, ⊤, length}
 use Rattle.io_model.specs.declared.file.FileSpec.{FileSpec}
 use Rattle.io_script.specs.Marks.{AreMarks}
 use Rattle.io_script.specs.SoFar.{SoFar, is_taken, is_given, is_placed, file_at}

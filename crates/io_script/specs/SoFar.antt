@@ -1,7 +1,6 @@
 use Rattle.std.specs.Prelude.{ℕ, Bool, true, false, ◌&&◌, ◌==◌, nat_le, nat_lt, ◌+◌, List, [], slice_index_or, unwrap_or}
 use Rattle.std.specs.List.{list_any}
 use Rattle.iob_base.specs.Layout.{Layout, layout}
-use Rattle.iob_base.specs.declared.stamp.Mode.{Mode}
 use Rattle.iob_base.specs.declared.stamp.Mode.TheVariants.{Cached}
 use Rattle.io_model.specs.Kinds.{covers, device_number}
 use Rattle.io_model.specs.declared.file.Extent.{Extent}

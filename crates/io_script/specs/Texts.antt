@@ -1,5 +1,4 @@
 use Rattle.std.specs.Prelude.{◌≡◌, ℕ, List, ◌++◌, Some, codes}
-use Rattle.io_script.specs.Causes.{number_of_cause}
 use Rattle.io_script.specs.Grammar.{refusal_of}
 use Rattle.io_script.specs.declared.read.cause.Cause.{Cause}
 

@@ -11,5 +11,7 @@ mod read;
 mod reply;
 mod run;
 
-pub use read::{Cause, ScriptFault, read_script};
+pub use read::{
+    Cause, Checked, ScriptFault, print_check, print_refusal, read_checked, read_script,
+};
 pub use run::print_run;

@@ -12,7 +12,9 @@ mod reader;
 mod script;
 mod segments;
 mod stage;
+mod told;
 mod words;
 
 pub use cause::{Cause, ScriptFault};
-pub use script::read_script;
+pub use script::{Checked, read_checked, read_script};
+pub use told::{print_check, print_refusal};

@@ -3,6 +3,7 @@ ghost use Rattle.std.specs.Prelude.{◌≡◌, [], Some, None, IfOk, IfErr};
 ghost use Rattle.io_script.specs.Grammar.{IsScript, IsFaultOf, is_header, common_cause, line_cause, unended_cause, end_cause, last_cause, IsRefusal, with_line, next_said, cause_by_kind, with_kind, kind_cause};
 ghost use Rattle.io_script.specs.GrammarWords.{words, fields_of};
 ghost use Rattle.io_script.specs.Reading.{said, IsReader, Takes, IsFaultAt};
+ghost use Rattle.io_script.specs.Checking.{IsChecked};
 ghost use Rattle.io_script.specs.Seen.{seen};
 ghost use Rattle.io_script.specs.SoFar.{script_so_far};
 
@@ -16,6 +17,13 @@ use crate::read::stage::Stage;
 use crate::read::words::{Words, cut, has_unprintable, is_kept_line, words_of};
 use io_model::Script;
 use std::alloc::Global;
+
+/// A script, and how many phase lines it has. The script tells only the phases of its calls.
+#[derive(Drop)]
+pub struct Checked {
+    pub script: Script,
+    pub phases: u32,
+}
 
 /// How many bytes a script may have.
 pub const TEXT_LIMIT: usize = 16777216;
@@ -109,8 +117,9 @@ fn missing(r: &Reader) -> Option<Cause>
 }
 
 /// The script after its last line end, or what is wrong there.
-fn conclude(reader: Reader, line: u64, left: &[u8]) -> Result<Script, ScriptFault>
-    ensures script { IfOk result (λ script. (left.now ≡ []) × (end_cause (said reader) ≡ None) × (script ≡ script_so_far (said reader))) }
+fn conclude(reader: Reader, line: u64, left: &[u8]) -> Result<Checked, ScriptFault>
+    ensures script { IfOk result (λ checked. (left.now ≡ []) × (end_cause (said reader) ≡ None)
+        × (checked.script ≡ script_so_far (said reader)) × (checked.phases ≡ (said reader).phases)) }
     ensures fault { IfErr result (IsRefusal line (last_cause (said reader) left.now)) }
 {
     if !left.is_empty() {
@@ -120,7 +129,9 @@ fn conclude(reader: Reader, line: u64, left: &[u8]) -> Result<Script, ScriptFaul
     if let Some(cause) = missing(&reader) {
         return Err(ScriptFault::Refused { line, cause });
     }
-    Ok(reader.finish())
+    let phases = reader.phases;
+    let script = reader.finish();
+    Ok(Checked { script, phases })
 }
 
 /// Why a script is not read whose line of this number was not taken.
@@ -133,12 +144,9 @@ fn fault_at(line: u64, fault: LineFault) -> ScriptFault
     }
 }
 
-/// The script that `bytes` are, in the written form of `docs/FORMATS.md`.
-///
-/// `Refused` comes exactly where they are no script, with the first line that has a cause and the
-/// lowest cause there. `NoMemory` comes where no memory could be had.
-pub fn read_script(alloc: Global, bytes: &[u8]) -> Result<Script, ScriptFault>
-    ensures script { IfOk result (IsScript bytes.now) }
+/// The script that `bytes` are, with the number of its phase lines. It is refused as by `read_script`.
+pub fn read_checked(alloc: Global, bytes: &[u8]) -> Result<Checked, ScriptFault>
+    ensures script { IfOk result (IsChecked bytes.now) }
     ensures fault { IfErr result (IsFaultOf bytes.now) }
 {
     if bytes.len() > TEXT_LIMIT {
@@ -156,4 +164,16 @@ pub fn read_script(alloc: Global, bytes: &[u8]) -> Result<Script, ScriptFault>
         line += 1;
     }
     conclude(reader, line, left)
+}
+
+/// The script that `bytes` are, in the written form of `docs/FORMATS.md`.
+///
+/// `Refused` comes exactly where they are no script, with the first line that has a cause and the
+/// lowest cause there. `NoMemory` comes where no memory could be had.
+pub fn read_script(alloc: Global, bytes: &[u8]) -> Result<Script, ScriptFault>
+    ensures script { IfOk result (IsScript bytes.now) }
+    ensures fault { IfErr result (IsFaultOf bytes.now) }
+{
+    let Checked { script, phases: _ } = read_checked(alloc, bytes)?;
+    Ok(script)
 }

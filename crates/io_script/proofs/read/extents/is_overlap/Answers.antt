@@ -1,8 +1,8 @@
-use Rattle.std.proofs.Common.{◌≡◌, ◌≤◌, ◌+◌, ◌||◌, ◌∙◌, sym, ap, arith}
+use Rattle.std.proofs.Common.{◌≤◌, ◌+◌, ◌||◌, ◌∙◌, sym, ap, arith}
 use Rattle.io_script.proofs.Places.{some_from-place, AreMarks-own}
 use Rattle.io_script.specs.Marks.{some_from}
 use Rattle.io_script.specs.Reading.{is_place_taken}
-use Rattle.io_script.specs.SoFar.{is_taken, is_placed, file_at}
+use Rattle.io_script.specs.SoFar.{is_taken}
 use Rattle.io_script.proofs.read.extents.is_overlap.Goals as goal
 
 pub returns-then-has_mark : goal.returns-then-has_mark

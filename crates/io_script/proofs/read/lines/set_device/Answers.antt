@@ -1,4 +1,4 @@
-use Rattle.std.proofs.Common.{◌≡◌, ℕ, List, sym, subst}
+use Rattle.std.proofs.Common.{ℕ, List, sym, subst}
 use Rattle.io_model.specs.declared.file.FileSpec.{FileSpec}
 use Rattle.io_script.specs.Marks.{AreMarks}
 use Rattle.io_script.specs.SoFar.{is_taken, is_given}

@@ -1,4 +1,4 @@
-use Rattle.std.proofs.Common.{◌≡◌, ℕ, ◌<◌, Bool, false, ◌||◌, ◌&&◌, nat_le, nat_lt, length, get_or}
+use Rattle.std.proofs.Common.{◌≡◌, ℕ, ◌<◌, false, ◌||◌, ◌&&◌, nat_le, nat_lt, length, get_or}
 use Rattle.io_script.proofs.read.marks.mark_run.Given as goal
 
 abbrev pub invariant-loop-i : goal.invariant-loop-i

@@ -1,7 +1,7 @@
-use Rattle.io_script.proofs.Walking.{has_come-none, has_come-line, refused_fault, refused_last, is_script}
+use Rattle.io_script.proofs.Walking.{has_come-line, refused_fault}
 use Rattle.io_script.specs.Grammar.{next_said}
 use Rattle.io_script.specs.Reading.{said}
-use Rattle.io_script.proofs.read.script.read_script.Goals as goal
+use Rattle.io_script.proofs.read.script.read_checked.Goals as goal
 
 pub loop-piece-preserved : goal.loop-piece-preserved
 loop-piece-preserved c =
