@@ -1,5 +1,12 @@
 pub mod Appended
+pub mod Cutting
 pub mod Digits
 pub mod Ended
 pub mod Extents
+pub mod Hexes
+pub mod Items
+pub mod Marking
+pub mod Places
+pub mod Reading
 pub mod Runs
+pub mod Walking

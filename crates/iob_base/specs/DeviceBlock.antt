@@ -8,6 +8,10 @@ pub record DeviceBlock : Type 0 where
 abbrev pub device_block : ℕ → List ℕ → DeviceBlock
 device_block number bytes = record { number = number; bytes = bytes }
 
+-- a block of no device
+abbrev pub BLANK : DeviceBlock
+BLANK = device_block 0 []
+
 -- the blocks below this number, in order, each with so many bytes of this value
 abbrev pub fresh_blocks : ℕ → ℕ → ℕ → List DeviceBlock
 fresh_blocks size fill zero = []

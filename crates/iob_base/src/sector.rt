@@ -32,6 +32,21 @@ pub struct Page {
     pub bytes: Items<u8>,
 }
 
+/// A block without bytes, with the number 0, for the unused places of a list of fixed room. It takes no
+/// memory, and it is a block of no device, since these have at least 16 bytes each.
+impl MadeWith<Global> for Sector {
+    ghost use Rattle.iob_base.specs.DeviceBlock.{BLANK};
+
+    ghost is_made_with = { λ s. s ≡ BLANK };
+
+    fn made_with(alloc: Global) -> Sector {
+        Sector {
+            number: 0,
+            bytes: Vec::new(alloc),
+        }
+    }
+}
+
 /// A page without bytes, with the number 0. It takes no memory.
 impl MadeWith<Global> for Page {
     fn made_with(alloc: Global) -> Page {

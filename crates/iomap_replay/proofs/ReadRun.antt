@@ -28,7 +28,7 @@ use Rattle.iomap_replay.specs.Jobs.{IsJobOf, script_of_job}
 use Rattle.iomap_replay.specs.OneRead.{blank, block_of, bytes_of, count_of, joined_from, opened_range, GaveRange, GaveNothing, IsOutcome, IsWholeEnd}
 use Rattle.iomap_replay.specs.Runs.{read_stamp, sector_with}
 use Rattle.iomap_replay.specs.declared.script.Job.{Job}
-use Rattle.range_core.specs.Cells.{cells_of, sectors_after}
+use Rattle.range_core.specs.Cells.{cells_of, cold_cell, sectors_after}
 use Rattle.range_core.specs.Events.{with_stamps}
 use Rattle.range_core.specs.Kinds.{kinds_from}
 use Rattle.range_core.specs.Lending.{pages_filled}
@@ -39,7 +39,7 @@ use Rattle.range_core.specs.declared.cell.Cell.{Cell}
 
 -- a mapped block with its device block
 abbrev pub mapped_cell : (ℕ → Content) → ℕ → Cell
-mapped_cell content m = record { kind = Mapped m; sector = Some (device_block m (content m)) }
+mapped_cell content m = cold_cell (Mapped m) (Some (device_block m (content m)))
 
 -- so many mapped blocks, whose device blocks go on by one
 abbrev pub mapped_run : (ℕ → Content) → ℕ → ℕ → List Cell
@@ -72,7 +72,7 @@ begins content e d kind (suc k) c (suc n) low high within =
     let is : kind_at (e ∷ []) c ≡ Mapped m = kind-inside e d c kind low below in
     let here = inside content e d c kind low below in
     let rest = begins content e d kind k (c + 1) n (omega (arith, low)) (omega (arith, high)) (omega (arith, within)) in
-    let cell : Option DeviceBlock → Kind → Cell = λ sector kind. record { kind = kind; sector = sector } in
+    let cell : Option DeviceBlock → Kind → Cell = λ sector kind. cold_cell kind sector in
     let others = cells_of (kinds_from (e ∷ []) (c + 1) n) (sectors_after (kind_at (e ∷ []) c) (rest_at content d e.block (e.block + e.length) c)) in
     record {
       others = rest.others;

@@ -1,7 +1,15 @@
+pub mod AfterEntry
 pub mod CellLemmas
+pub mod DropLemmas
+pub mod FirstTruth
 pub mod KindLemmas
+pub mod KindRuns
 pub mod LendingLemmas
+pub mod LoanLemmas
 pub mod MergeLemmas
+pub mod OnRunLemmas
 pub mod ReadLemmas
+pub mod RefusedLemmas
 pub mod RunLemmas
+pub mod StakeTruth
 pub mod StampLemmas

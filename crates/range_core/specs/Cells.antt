@@ -1,4 +1,4 @@
-use Rattle.std.specs.Prelude.{◌≡◌, ℕ, Option, Some, None, List, [], ◌∷◌, length, drop, slice_get, IsSomeAnd, if◌then◌else◌}
+use Rattle.std.specs.Prelude.{◌≡◌, ℕ, false, Option, Some, None, List, [], ◌∷◌, length, drop, slice_get, IsSomeAnd, if◌then◌else◌}
 use Rattle.iob_base.specs.DeviceBlock.{DeviceBlock}
 use Rattle.io_model.specs.Kinds.{device_number}
 use Rattle.io_model.specs.declared.file.Kind.{Kind}
@@ -19,9 +19,13 @@ HasSector size (Some number) sector = IsSomeAnd sector (IsBlock size number)
 abbrev pub IsHome : ℕ → Cell → Type 0
 IsHome size c = HasSector size (device_number c.kind) c.sector
 
+-- a block of this kind and with this sector, without a page
+abbrev pub cold_cell : Kind → Option DeviceBlock → Cell
+cold_cell kind sector = record { kind = kind; sector = sector; away = None; page = None; dirty = false }
+
 -- a block of this kind, with the next sector where it has space
 abbrev pub cell_of : Kind → List DeviceBlock → Cell
-cell_of kind sectors = record { kind = kind; sector = if has_space kind then slice_get sectors 0 else None }
+cell_of kind sectors = cold_cell kind (if has_space kind then slice_get sectors 0 else None)
 
 -- the sectors that are left for the blocks after it
 abbrev pub sectors_after : Kind → List DeviceBlock → List DeviceBlock

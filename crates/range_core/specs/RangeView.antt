@@ -12,7 +12,8 @@ use Rattle.range_core.specs.Runs.{begins_mapped}
 use Rattle.range_core.specs.declared.cell.Cell.{Cell}
 
 -- a run of blocks of a file: the sizes, the file's mode, the number of the first block, the blocks, the
--- stamps with their blocks in the order of the events that left them, and the cookie
+-- stamps with their blocks in the order of the events that left them, the cookie, the count of failed
+-- writebacks, and the number of the next ticket
 pub record RangeView : Type 0 where
   pub geometry : Layout
   pub mode : Mode
@@ -20,11 +21,13 @@ pub record RangeView : Type 0 where
   pub cells : List Cell
   pub log : List (ℕ × Stamp)
   pub cookie : ℕ
+  pub errors : ℕ
+  pub tickets : ℕ
 
 -- a range before the first event
 abbrev pub range_of : Layout → Mode → ℕ → ℕ → List Extent → List DeviceBlock → ℕ → RangeView
 range_of geometry mode first blocks extents sectors cookie =
-    record { geometry = geometry; mode = mode; first = first; cells = cells_of (kinds_from extents first blocks) sectors; log = []; cookie = cookie }
+    record { geometry = geometry; mode = mode; first = first; cells = cells_of (kinds_from extents first blocks) sectors; log = []; cookie = cookie; errors = 0; tickets = 0 }
 
 -- the blocks of a range from one on
 abbrev pub cells_from : RangeView → ℕ → List Cell
@@ -48,3 +51,9 @@ pub record CanReadNow (r : RangeView) (b : ℕ) (pages : List Page) : Type 0 whe
   pub mapped : IsTrue (begins_mapped (cells_from r b))
   pub some : 0 < length pages
   pub whole : All (λ p. length p.bytes ≡ r.geometry.block_size) pages
+
+-- a run of blocks lies in a range
+pub record LiesAt (r : RangeView) (b n : ℕ) : Type 0 where
+  pub low : r.first ≤ b
+  pub some : 0 < n
+  pub high : b + n ≤ r.first + length r.cells

@@ -23,9 +23,9 @@ stamp_at b entry = if entry.0 == b then Some entry.1 else None
 abbrev pub stamps_at : ℕ → List (ℕ × Stamp) → List Stamp
 stamps_at b log = filter_map (stamp_at b) log
 
--- the end of a block on which no stamp was left
+-- the end of a block on which no stamp was left: its sector, and its page where that is dirty
 abbrev pub bare_end : Cell → BlockEnd
-bare_end c = record { sector = c.sector; dirty = None; journal = [] }
+bare_end c = record { sector = c.sector; dirty = if c.dirty then c.page else None; journal = [] }
 
 -- the ends of blocks from b on, with the stamps that a log has for each
 abbrev pub journaled : ℕ → List (ℕ × Stamp) → List BlockEnd → List BlockEnd

@@ -3,14 +3,22 @@ ghost use Rattle.std.specs.Prelude.{◌≡◌, ◌<◌, ◌≤◌, ◌+◌, ◌^
 ghost use Rattle.io_model.specs.Kinds.{covers, kind_after, kind_at, device_number, is_kind};
 ghost use Rattle.range_core.specs.Kinds.{HasNumbers, has_space};
 
+use crate::lending::Away;
 use io_model::{Extent, Kind};
-use iob_base::Sector;
+use iob_base::{Page, Sector};
 
-/// A block of a range: its kind, and its sector where it has space.
+/// A block of a range.
 #[derive(Drop)]
 pub struct Cell {
     pub kind: Kind,
+    /// Its sector, where its kind has space and no ticket has it.
     pub sector: Option<Sector>,
+    /// The ticket that has its sector.
+    pub away: Option<Away>,
+    /// Its bytes in memory, where it is uptodate.
+    pub page: Option<Page>,
+    /// Whether its page has bytes that its sector lacks.
+    pub dirty: bool,
 }
 
 /// The kind that the extents give to a block of the file.

@@ -1,7 +1,7 @@
 //! How a range begins.
 ghost use Rattle.std.specs.Prelude.{◌≡◌, ◌+◌, ◌<◌, ◌≤◌, ◌^◌, All, IfOk};
 ghost use Rattle.std.specs.Vec.Iter.{into_iter_items};
-ghost use Rattle.range_core.specs.Cells.{cell_of, cells_of, sectors_after};
+ghost use Rattle.range_core.specs.Cells.{cell_of, cells_of, cold_cell, sectors_after};
 ghost use Rattle.range_core.specs.Kinds.{HasNumbers, kinds_from};
 
 use crate::cell::{Cell, is_placed, kind_of};
@@ -36,8 +36,19 @@ fn next_cell(kind: Kind, sectors: &mut IntoIter<Sector>) -> Cell
     ensures rest { into_iter_items sectors.new ≡ sectors_after kind (into_iter_items sectors.old) }
 {
     if !is_placed(kind) {
-        return Cell { kind, sector: None };
+        return clean_cell(kind, None);
     }
-    let sector = sectors.next();
-    Cell { kind, sector }
+    clean_cell(kind, sectors.next())
+}
+
+fn clean_cell(kind: Kind, sector: Option<Sector>) -> Cell
+    ensures { result ≡ cold_cell kind sector }
+{
+    Cell {
+        kind,
+        sector,
+        away: None,
+        page: None,
+        dirty: false,
+    }
 }

@@ -1,9 +1,12 @@
 //! A range and its events.
-ghost use Rattle.std.specs.Prelude.{◌≡◌, ◌+◌, ◌≤◌, [], true, false, All, IfOk, IfErr, OnOk, OnErr, MatchResult, IsTrue, length, map};
+ghost use Rattle.std.specs.Prelude.{◌≡◌, ◌+◌, ◌≤◌, [], ◌∷◌, Some, true, false, All, IfOk, IfErr, OnOk, OnErr, MatchResult, IsTrue, length, map};
 ghost use Rattle.io_model.specs.Fitting.{is_merged_from};
 ghost use Rattle.fault_device.specs.LaneView.{lane_seen};
 ghost use Rattle.fault_device.specs.Opening.{Opening, Serves};
 ghost use Rattle.fault_device.specs.Ran.{Ran};
+
+mod drops;
+mod look;
 
 use crate::cell::Cell;
 use crate::end::RangeEnd;
@@ -13,9 +16,11 @@ use crate::open::build_cells;
 use crate::run::run_at;
 use crate::stamps::{add_stamps, end_blocks, stamp_done};
 use crate::transfer::{Pages, read_block_run};
+pub use drops::DropPages;
 use fault_device::{Lane, Part};
 use io_model::Extent;
 use iob_base::{Geometry, Items, Mode, Sector, Stamp, Tag};
+pub use look::Look;
 use std::alloc::{AllocError, Global};
 use std::marker::Model;
 
@@ -32,6 +37,8 @@ pub struct Range {
     cells: Vec<Cell>,
     log: Vec<(u64, Stamp)>,
     cookie: u64,
+    errors: u64,
+    tickets: u64,
     parts: Vec<Part>,
 }
 
@@ -41,7 +48,7 @@ impl Model for Range {
 
     ghost Value = { RangeView };
 
-    ghost view = { λ r. record { geometry = r.geometry; mode = r.mode; first = r.first; cells = r.cells.items; log = r.log.items; cookie = r.cookie } };
+    ghost view = { λ r. record { geometry = r.geometry; mode = r.mode; first = r.first; cells = r.cells.items; log = r.log.items; cookie = r.cookie; errors = r.errors; tickets = r.tickets } };
 
     ghost invariant = { λ r. IsSound r.geometry.block_size r.first r.cells.items r.log.items × (r.parts.items ≡ []) × (16 ≤ vec_capacity r.parts) };
 }
@@ -52,6 +59,8 @@ impl Range {
     ghost use Rattle.range_core.specs.Kinds.{kinds_from};
     ghost use Rattle.range_core.specs.Lending.{pages_filled};
     ghost use Rattle.range_core.specs.Opening.{CanOpen};
+    ghost use Rattle.range_core.specs.ClaimsView.{first_claims};
+    ghost use Rattle.range_core.specs.RangeTruth.{RangeTruth};
     ghost use Rattle.range_core.specs.RangeView.{CanReadNow, cells_from, range_of};
     ghost use Rattle.range_core.specs.Runs.{run_length};
     ghost use Rattle.range_core.specs.Stamps.{bare_end, done_by, journaled, stamps_from};
@@ -71,6 +80,7 @@ impl Range {
         requires { CanOpen geometry.block_size first blocks extents.items sectors.items cookie }
         ensures ok { IfOk result (λ r. r ≡ range_of geometry mode first blocks extents.items sectors.items cookie) }
         ensures homes { IfOk result (λ r. All (IsHome r.geometry.block_size) r.cells) }
+        ensures truth { IfOk result (λ r. RangeTruth r r [] ((Some first_claims, []) ∷ [])) }
     {
         let parts = Vec::with_capacity(alloc, 16)?;
         let cells = build_cells(alloc, extents.as_slice(), first, blocks, sectors)?;
@@ -81,6 +91,8 @@ impl Range {
             cells,
             log: Vec::new(alloc),
             cookie,
+            errors: 0,
+            tickets: 0,
             parts,
         })
     }
@@ -140,6 +152,8 @@ impl Range {
             cells,
             log,
             cookie: _,
+            errors: _,
+            tickets: _,
             parts: _,
         } = self;
         let alloc = *log.allocator();

@@ -50,13 +50,25 @@ fn bare_ends(alloc: Global, cells: Vec<Cell>) -> Result<Vec<BlockEnd>, AllocErro
 {
     let mut ends = Vec::with_capacity(alloc, cells.len())?;
     for cell in cells {
-        ends.push(BlockEnd {
-            sector: cell.sector,
-            dirty: None,
-            journal: Items::new(alloc),
-        })?;
+        ends.push(end_of(alloc, cell))?;
     }
     Ok(ends)
+}
+
+fn end_of(alloc: Global, cell: Cell) -> BlockEnd
+    ensures { result ≡ bare_end cell }
+{
+    let Cell {
+        sector,
+        page,
+        dirty,
+        ..
+    } = cell;
+    BlockEnd {
+        sector,
+        dirty: if dirty { page } else { None },
+        journal: Items::new(alloc),
+    }
 }
 
 fn write_journals(

@@ -1,0 +1,3 @@
+mod FreshSectors
+mod CameBack
+mod Closing

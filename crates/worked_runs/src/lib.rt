@@ -2,10 +2,16 @@
 #![tactic(auto)]
 
 #[cfg(test)]
+mod iovs;
+#[cfg(test)]
 mod locks;
 #[cfg(test)]
 mod maps;
 #[cfg(test)]
+mod pool;
+#[cfg(test)]
 mod replays;
+#[cfg(test)]
+mod small;
 #[cfg(test)]
 mod turns;

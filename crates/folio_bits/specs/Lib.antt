@@ -1,0 +1,4 @@
+pub mod BlockSets
+pub mod Steps
+pub mod Counting
+pub mod Views

@@ -1,0 +1,11 @@
+pub mod Lists
+pub mod Pieces
+pub mod Pages
+pub mod Replies
+pub mod Calls
+pub mod Merged
+pub mod Lines
+pub mod Files
+pub mod Ends
+pub mod Lanes
+pub mod Whole

@@ -1,0 +1,16 @@
+//! The law that a printed text has one reading.
+ghost use Rattle.std.specs.Prelude.{Bool};
+ghost use Rattle.io_model.specs.Fitting.{Fits};
+ghost use Rattle.io_model.specs.declared.run.Run.{Run};
+ghost use Rattle.io_model.specs.declared.script.Script.{Script};
+ghost use Rattle.io_script.specs.Ranges.{IsRunInRange, IsScriptInRange};
+ghost use Rattle.io_script.specs.OneReading.{NamesFiles, HasOneReading};
+
+/// Two runs of one script that print the same text, with the image or without it, are the same in
+/// all that the text tells: replies, bytes read, pages, journals, extents, dirty bytes, counts,
+/// lanes, and with the image the bytes of the mapped blocks. The script and the runs are any whose
+/// numbers fit their types, as `numbers_of_a_script` and `numbers_of_a_run` show of every one.
+pub fn text_has_one_reading()
+    ensures { (script : Script) (image : Bool) (one other : Run) → NamesFiles script → IsScriptInRange script
+        → Fits script one → Fits script other → IsRunInRange one → IsRunInRange other → HasOneReading script image one other }
+{}

@@ -1,0 +1,10 @@
+pub mod Bytes
+pub mod Filling
+pub mod KeepLemmas
+pub mod LawLemmas
+pub mod Making
+pub mod PutLemmas
+pub mod RunLemmas
+pub mod Sizes
+pub mod SlotLemmas
+pub mod SpotLemmas

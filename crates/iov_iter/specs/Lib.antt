@@ -1,0 +1,10 @@
+pub mod IovView
+pub mod Home
+pub mod Kept
+pub mod Making
+pub mod Moving
+pub mod Laws
+pub mod Slots
+pub mod Runs
+pub mod Spots
+pub mod Unaligned

@@ -1,0 +1,39 @@
+use Rattle.std.proofs.Common.{◌≡◌, ℕ, ◌-◌, Some, List, [], ◌∷◌, ◌++◌, set, refl, sym, subst, ⊎_elim}
+use Rattle.range_core.specs.BlockStates.{state_of}
+use Rattle.range_core.specs.BlockTruth.{IsTrueAt}
+use Rattle.range_core.specs.Drops.{drop_entry, without_clean_page}
+use Rattle.range_core.specs.OnRun.{on_run}
+use Rattle.range_core.specs.RangeTruth.{IsUncached, RangeTruth, pending}
+use Rattle.range_core.specs.RangeView.{RangeView}
+use Rattle.range_core.specs.declared.cell.Cell.{Cell}
+use Rattle.range_core.specs.declared.entry.Entry.{Entry}
+use Rattle.range_core.proofs.AfterEntry.{paged_truth}
+use Rattle.range_core.proofs.DropLemmas.{dropped-kind, dropped-pending, dropped-state, dropped-true, dropped-uncached}
+use Rattle.range_core.proofs.OnRunLemmas.{All-on_run, length-on_run, map-on_run, on_run-at, total-on_run}
+use Rattle.range_core.proofs.range.drops.DropPagesChangeRange.apply.Goals as goal
+
+pub returns : goal.returns
+returns c s =
+    let was = c.args.value.now in
+    let run = c.args.self.now in
+    let claims = c.args._claims.now in
+    let low : ℕ = run.block - was.first in
+    let cells : List Cell = on_run without_clean_page low run.blocks was.cells in
+    let entry : Entry = drop_entry claims run c.drop_clean.result in
+    let T : RangeView → Type 0 = λ r. RangeTruth s.opening r (s.history ++ entry ∷ []) (set s.stakes s.number (Some claims, s.made ++ entry ∷ [])) in
+    record {
+      entry = entry;
+      done = record { change = refl; value = c.drop_clean.ensures.state; claims_are = refl; count = c.drop_clean.ensures.count; entry_is = refl };
+      holds = subst T (sym c.drop_clean.ensures.state)
+          (paged_truth s.opening was cells s.history entry s.stakes s.number claims s.made s.stands.holds s.stands.here
+          (record { content = λ b x. refl; state = λ b x. refl; failed = refl; lent = refl; changed = refl; stamps = refl })
+          tt refl
+          (length-on_run without_clean_page low run.blocks was.cells)
+          (map-on_run without_clean_page (λ (x : Cell). x.kind) dropped-kind low run.blocks was.cells)
+          (total-on_run without_clean_page pending dropped-pending low run.blocks was.cells)
+          (All-on_run without_clean_page IsUncached dropped-uncached low run.blocks was.cells)
+          (λ i old x there at. let S : Cell → Type 0 = λ y. state_of y ≡ state_of old in
+          ⊎_elim (λ (e : x ≡ old). subst S (sym e) refl) (λ (e : x ≡ without_clean_page old). subst S (sym e) (dropped-state old)) (on_run-at without_clean_page low run.blocks i was.cells old x there at))
+          (λ i old x b content there at h. let S : Cell → Type 0 = λ y. IsTrueAt s.opening.geometry.block_size b y content s.stakes in
+          ⊎_elim (λ (e : x ≡ old). subst S (sym e) h) (λ (e : x ≡ without_clean_page old). subst S (sym e) (dropped-true _ b old content s.stakes h)) (on_run-at without_clean_page low run.blocks i was.cells old x there at)));
+    }

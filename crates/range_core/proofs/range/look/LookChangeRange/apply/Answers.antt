@@ -1,0 +1,25 @@
+use Rattle.std.proofs.Common.{◌≡◌, refl}
+use Rattle.range_core.specs.Lookups.{sample_at}
+use Rattle.range_core.specs.Looks.{sample_entry}
+use Rattle.range_core.specs.declared.entry.Entry.{Entry}
+use Rattle.range_core.specs.declared.sample.Sample.{Sample}
+use Rattle.range_core.proofs.AfterEntry.{quiet_truth}
+use Rattle.range_core.proofs.KindRuns.{present_sample}
+use Rattle.range_core.proofs.range.look.LookChangeRange.apply.Goals as goal
+
+pub returns : goal.returns
+returns c s =
+    let was = c.args.value.now in
+    let look = c.args.self.now in
+    let claims = c.args._claims.now in
+    let sample : Sample = c.sample.result in
+    let entry : Entry = sample_entry claims look sample in
+    let is : sample ≡ sample_at was look.block look.most = c.sample.ensures in
+    record {
+      entry = entry;
+      done = record { change = refl; value = refl; claims_are = refl; sample_is = is; entry_is = refl };
+      holds = quiet_truth s.opening was s.history entry s.stakes s.number claims s.made s.stands.holds s.stands.here
+          (record { content = λ b x. refl; state = λ b x. refl; failed = refl; lent = refl; changed = refl; stamps = refl })
+          (present_sample was look.block look.most sample is)
+          refl;
+    }

@@ -1,0 +1,22 @@
+-- What a turn that takes a sample does.
+use Rattle.std.specs.Prelude.{◌≡◌}
+use Rattle.range_core.specs.ClaimsView.{ClaimsView}
+use Rattle.range_core.specs.Lookups.{sample_at}
+use Rattle.range_core.specs.RangeView.{RangeView}
+use Rattle.range_core.specs.declared.entry.Entry.{Entry}
+use Rattle.range_core.specs.declared.entry.Event.TheVariants.{TakeSample}
+use Rattle.range_core.specs.declared.entry.Outcome.TheVariants.{Sampled}
+use Rattle.range_core.specs.declared.range.look.Look.{Look}
+use Rattle.range_core.specs.declared.sample.Sample.{Sample}
+
+-- the entry of a sample
+abbrev pub sample_entry : ClaimsView → Look → Sample → Entry
+sample_entry claims look sample = record { caller = claims.caller; event = TakeSample look.block look.most; outcome = Sampled sample }
+
+-- The turn gave the present sample, and nothing changed
+pub record Looked (look later : Look) (before after : RangeView) (claims left : ClaimsView) (sample : Sample) (entry : Entry) : Type 0 where
+  pub change : later ≡ look
+  pub value : after ≡ before
+  pub claims_are : left ≡ claims
+  pub sample_is : sample ≡ sample_at before look.block look.most
+  pub entry_is : entry ≡ sample_entry claims look sample

@@ -1,0 +1,68 @@
+-- Refusals tried on ranges of three blocks of four bytes.
+use Rattle.std.specs.Prelude.{◌≡◌, ℕ, Bool, true, false, Some, None, List, [], ◌∷◌}
+use Rattle.iob_base.specs.declared.TheConstants.{WORN}
+use Rattle.iob_base.specs.declared.stamp.Mode.TheVariants.{Cached}
+use Rattle.iob_base.specs.declared.sector.Page.{Page}
+use Rattle.io_model.specs.declared.file.Kind.{Kind}
+use Rattle.io_model.specs.declared.file.Kind.TheVariants.{Hole, Delalloc, Unwritten, Mapped}
+use Rattle.range_core.specs.RangeView.{RangeView}
+use Rattle.range_core.specs.Refusals.{reserve_refusal, fetch_refusal, store_refusal, lend_read_refusal, lend_writeback_refusal, direct_now_refusal, wipe_refusal}
+use Rattle.range_core.specs.declared.cell.Cell.{Cell}
+use Rattle.range_core.specs.declared.fault.EventFault.TheVariants.{Stale, Away, Cold, Settled, Unattached, Dirty, Worn}
+use Rattle.range_core.specs.declared.lending.Lender.{Lender}
+use Rattle.range_core.specs.declared.lending.Lender.TheVariants.{Reading, Writeback}
+use Rattle.range_core.specs.declared.sample.Sample.{Sample}
+
+abbrev range : ℕ → List Cell → RangeView
+range cookie cells = record { geometry = record { block_size = 4; folio_blocks = 4 }; mode = Cached; first = 0; cells = cells; log = []; cookie = cookie; errors = 0; tickets = 6 }
+
+abbrev page : Page
+page = record { number = 0; bytes = 1 ∷ 2 ∷ 3 ∷ 4 ∷ [] }
+
+abbrev bare : Kind → Cell
+bare kind = record { kind = kind; sector = None; away = None; page = None; dirty = false }
+
+abbrev paged : Kind → Bool → Cell
+paged kind dirty = record { kind = kind; sector = None; away = None; page = Some page; dirty = dirty }
+
+abbrev lent : Kind → Lender → Cell
+lent kind lender = record { kind = kind; sector = None; away = Some (record { ticket = 5; lender = lender }); page = None; dirty = false }
+
+abbrev seen : ℕ → Kind → Sample
+seen cookie kind = record { cookie = cookie; errors = 0; extent = record { block = 0; length = 1; kind = kind } }
+
+-- a sample of an earlier cookie comes before all else
+abbrev pub StaleComesFirst : Type 0
+StaleComesFirst = store_refusal (range 2 (lent (Mapped 7) Reading ∷ [])) (seen 1 Delalloc) 1 2 ≡ Some (Stale 1 2)
+
+-- a block that is away hinders before an earlier one that is cold
+abbrev pub AwayComesBeforeCold : Type 0
+AwayComesBeforeCold =
+    (fetch_refusal (range 0 (bare (Mapped 7) ∷ lent (Mapped 8) Reading ∷ [])) 1 7 ≡ Some (Away 1 5)) × (fetch_refusal (range 0 (bare Hole ∷ bare (Mapped 8) ∷ [])) 1 7 ≡ Some (Cold 1))
+
+-- a block that is away for writeback hinders neither a fetch nor a store
+abbrev pub WritebackHindersNoStore : Type 0
+WritebackHindersNoStore =
+    (fetch_refusal (range 0 (lent (Mapped 7) Writeback ∷ [])) 1 2 ≡ None) × (store_refusal (range 0 (lent (Mapped 7) Writeback ∷ [])) (seen 0 (Mapped 7)) 1 2 ≡ None)
+
+-- a store reads no block that it covers whole
+abbrev pub WholeBlocksAreNotCold : Type 0
+WholeBlocksAreNotCold =
+    (store_refusal (range 0 (bare (Mapped 7) ∷ bare (Mapped 8) ∷ [])) (seen 0 (Mapped 7)) 0 6 ≡ Some (Cold 1)) × (store_refusal (range 0 (bare (Mapped 7) ∷ bare (Mapped 8) ∷ [])) (seen 0 (Mapped 7)) 0 8 ≡ None)
+
+-- nothing is lent of a block on which there is nothing to do
+abbrev pub SettledIsNotLent : Type 0
+SettledIsNotLent =
+    (lend_read_refusal (range 0 (paged (Mapped 7) false ∷ [])) 0 ≡ Some (Settled 0)) × (lend_read_refusal (range 0 (bare (Unwritten 7) ∷ [])) 0 ≡ Some (Settled 0))
+    × (lend_read_refusal (range 0 (bare (Mapped 7) ∷ [])) 0 ≡ None) × (lend_writeback_refusal (range 0 (paged (Mapped 7) false ∷ [])) 0 ≡ Some (Settled 0))
+    × (lend_writeback_refusal (range 0 (paged Delalloc true ∷ [])) 0 ≡ Some (Unattached 0)) × (lend_writeback_refusal (range 0 (paged (Mapped 7) true ∷ [])) 0 ≡ None)
+
+-- a direct read takes no block whose newest bytes are in memory alone
+abbrev pub DirtyIsNotReadDirectly : Type 0
+DirtyIsNotReadDirectly = (direct_now_refusal (range 0 (bare Hole ∷ paged Delalloc true ∷ [])) 1 ≡ Some (Dirty 1)) × (direct_now_refusal (range 0 (bare Hole ∷ paged Delalloc true ∷ [])) 0 ≡ None)
+
+-- no event that may be refused changes a kind once the cookies are used up, and one that changes none goes on
+abbrev pub WornChangesNoKind : Type 0
+WornChangesNoKind =
+    (reserve_refusal (range WORN (bare Hole ∷ [])) (seen WORN Hole) ≡ Some (Worn WORN)) × (wipe_refusal (range WORN (bare (Mapped 7) ∷ [])) 0 1 ≡ Some (Worn WORN))
+    × (wipe_refusal (range WORN (bare Hole ∷ [])) 0 1 ≡ None) × (lend_writeback_refusal (range WORN (paged (Unwritten 7) true ∷ [])) 0 ≡ Some (Worn WORN))

@@ -1,0 +1,71 @@
+//! What the range truth says of loans, and the definitions tried on histories that can be checked by hand. Each law is a
+//! function that does nothing.
+ghost use Rattle.range_core.specs.Loans.{LoanIsClaimed, OthersStayClaimed, ReturnFreesClaim};
+ghost use Rattle.range_core.specs.Quiet.{RefusedIsQuiet};
+ghost use Rattle.range_core.specs.TriedRefusals.{StaleComesFirst, AwayComesBeforeCold, WritebackHindersNoStore, WholeBlocksAreNotCold, SettledIsNotLent, DirtyIsNotReadDirectly, WornChangesNoKind};
+ghost use Rattle.range_core.specs.Tried.{StoreLeavesZerosAround, WritebackMaps, FailedWritebackMakesDirty, StoreMeanwhileStaysDirty, WipeLeavesAHole, StoreStampsEachBlock, FailedWriteLandsAPrefix, FailedWriteLeavesUnwritten};
+
+/// A block at home that a seat borrows is away on exactly that seat's claim, whatever others claim.
+pub fn loan_is_claimed()
+    ensures { LoanIsClaimed }
+{}
+
+/// A block that comes back is claimed by nobody.
+pub fn return_frees_claim()
+    ensures { ReturnFreesClaim }
+{}
+
+/// Blocks that a claim does not name are claimed as before when it is made or given up.
+pub fn others_stay_claimed()
+    ensures { OthersStayClaimed }
+{}
+
+/// An event that was refused leaves the contents, the kinds, the dirty bits, the journals and the counts as they were.
+pub fn refused_is_quiet()
+    ensures { RefusedIsQuiet }
+{}
+
+/// A store into a block that was never written leaves zeros around its bytes, and makes it dirty.
+pub fn store_leaves_zeros_around()
+    ensures { StoreLeavesZerosAround }
+{}
+
+/// A block becomes mapped where its writeback came back, is dirty again where that failed, and stays dirty where a store
+/// changed it meanwhile.
+pub fn writeback_maps()
+    ensures maps { WritebackMaps }
+    ensures failed { FailedWritebackMakesDirty }
+    ensures stored { StoreMeanwhileStaysDirty }
+{}
+
+/// A wipe leaves a hole that reads as zeros.
+pub fn wipe_leaves_a_hole()
+    ensures { WipeLeavesAHole }
+{}
+
+/// A store stamps each block that it meets.
+pub fn store_stamps_each_block()
+    ensures { StoreStampsEachBlock }
+{}
+
+/// A direct write that failed has landed on the first blocks where they are mapped, and nowhere else.
+pub fn failed_write_lands_a_prefix()
+    ensures mapped { FailedWriteLandsAPrefix }
+    ensures unwritten { FailedWriteLeavesUnwritten }
+{}
+
+/// Events are refused in this order: for a sample of another cookie, for a block that is away, for one that hinders as it
+/// is, and for want of cookies.
+pub fn refusals_have_an_order()
+    ensures stale { StaleComesFirst }
+    ensures away { AwayComesBeforeCold }
+    ensures worn { WornChangesNoKind }
+{}
+
+/// A block hinders an event only where the event needs what it lacks.
+pub fn only_what_hinders_refuses()
+    ensures writeback { WritebackHindersNoStore }
+    ensures whole { WholeBlocksAreNotCold }
+    ensures settled { SettledIsNotLent }
+    ensures dirty { DirtyIsNotReadDirectly }
+{}

@@ -1,0 +1,41 @@
+//! What a range lends, and what a seat's claim tells of it.
+use arrayvec::ArrayVec;
+use fault_device::Part;
+use io_model::Kind;
+use iob_base::{Op, Tag};
+use std::alloc::Global;
+use std::snapshot::Snapshot;
+
+/// The event that lent a block: a read of it into the page cache, a write of its dirty page, or a transfer of a
+/// caller's own pages.
+#[derive(Clone, Copy)]
+pub enum Lender {
+    Reading,
+    Writeback,
+    Direct { by: Tag, op: Op },
+}
+
+/// Which ticket has a block's sector, and what for.
+#[derive(Clone, Copy)]
+pub struct Away {
+    pub ticket: u64,
+    pub lender: Lender,
+}
+
+/// 1 to 16 blocks that follow each other in a file, lent on one ticket: each with its sector and a page of a block's
+/// length.
+#[derive(Drop)]
+pub struct Lent {
+    pub ticket: u64,
+    pub block: u64,
+    pub parts: ArrayVec<Part, 16, Global>,
+}
+
+/// A claim on blocks that are lent: what was lent, as contracts see it, what for, and the kind of the first block.
+/// The program keeps no copy of the bytes.
+#[derive(Drop)]
+pub struct Held {
+    pub lent: Snapshot<Lent>,
+    pub lender: Lender,
+    pub kind: Kind,
+}

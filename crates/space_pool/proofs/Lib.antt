@@ -1,0 +1,9 @@
+mod Weighing
+mod TakingLowest
+mod Removing
+mod Sizes
+mod States
+mod Keeping
+mod Moving
+mod Parting
+mod Starting

@@ -1,0 +1,17 @@
+use Rattle.std.proofs.Common.{◌-◌, subst, arith}
+use Rattle.space_pool.specs.Pool.{PoolView, pool_view, Takes}
+use Rattle.space_pool.proofs.States.{left-length, left-sized, takes-state}
+use Rattle.space_pool.proofs.state.PoolState.take.Goals as goal
+
+pub invariant_of-self : goal.invariant_of-self
+invariant_of-self c =
+    let t = c.take.ensures.lowest in
+    let kept = c.self.invariant in
+    (omega (arith, left-length t, kept.0), omega (arith, c.take.ensures.room, kept.1), left-sized t _ kept.2)
+
+pub returns-clause-taken : goal.returns-clause-taken
+returns-clause-taken c =
+    let inside = c.self.inside in
+    let made = takes-state c.take.ensures.lowest inside.reserved inside.whole.facts c.args.claims.now.facts c.of.result.facts c.len-from.result c.as_slice.result.now
+    c.self.invariant.2 (omega arith) c.as_slice.ensures.value c.of.ensures in
+    subst (λ (p : PoolView). Takes c.args.n p c.args.claims.now.facts c.args.into.now.items (pool_view c.take.new.self.sectors (inside.reserved - c.args.n) inside.whole.facts) c.of.result.facts c.take.new.into.items) c.self.view_is made

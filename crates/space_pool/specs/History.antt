@@ -1,0 +1,33 @@
+-- The history of a pool, and how many sectors it leaves unreserved.
+use Rattle.std.specs.Prelude.{◌≡◌, ℕ, ◌+◌, ◌-◌, List, [], ◌∷◌, Result, Ok, Err}
+use Rattle.space_pool.specs.declared.answer.NoSpace.{NoSpace}
+use Rattle.space_pool.specs.declared.entry.PoolEntry.{PoolEntry}
+use Rattle.space_pool.specs.declared.entry.PoolEntry.TheVariants.{Reserve, ReserveSome, Unreserve, Take, Give, Count}
+use Rattle.space_pool.specs.Pool.{PoolView, unreserved}
+
+abbrev pub after_reserve : ℕ → ℕ → Result (Unit {0}) NoSpace → ℕ
+after_reserve count n (Ok done) = count - n
+after_reserve count n (Err refused) = count
+
+abbrev pub after_some : ℕ → Result ℕ NoSpace → ℕ
+after_some count (Ok n) = count - n
+after_some count (Err refused) = count
+
+-- how many sectors are unreserved after an entry, where so many were before it
+abbrev pub unreserved_after : ℕ → PoolEntry → ℕ
+unreserved_after count (Reserve n answer) = after_reserve count n answer
+unreserved_after count (ReserveSome n answer) = after_some count answer
+unreserved_after count (Unreserve n) = count + n
+unreserved_after count (Take n taken) = count
+unreserved_after count (Give n) = count + n
+unreserved_after count (Count answer) = count
+
+-- the same after all entries of a history
+abbrev pub unreserved_since : ℕ → List PoolEntry → ℕ
+unreserved_since count [] = count
+unreserved_since count (e ∷ es) = unreserved_since (unreserved_after count e) es
+
+-- A turn made this entry, and so many sectors were unreserved before it as the history tells
+pub record Enters (opening value : PoolView) (history : List PoolEntry) (entry made : PoolEntry) : Type 0 where
+  pub entry_is : entry ≡ made
+  pub found : unreserved value ≡ unreserved_since (unreserved opening) history
