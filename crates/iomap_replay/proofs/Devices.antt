@@ -7,7 +7,7 @@ use Rattle.iob_base.specs.DeviceBlock.{DeviceBlock, device_block, fresh_blocks}
 use Rattle.io_model.specs.Contents.{Content, given_or}
 use Rattle.iomap_replay.specs.Devices.{blocks_with, content_given}
 use Rattle.iomap_replay.specs.Facts.{is_whole}
-use Rattle.iomap_replay.specs.declared.lines.Device.{Device}
+use Rattle.iomap_replay.specs.declared.job.Device.{Device}
 
 -- both parts of a test that holds
 pub and-left : (a b : Bool) → (a && b) ≡ true → a ≡ true

@@ -1,128 +1,211 @@
 -- What an ending says, from what was read to what was written.
-use Rattle.std.proofs.Common.{◌≡◌, ℕ, ◌<◌, ◌≤◌, Bool, true, false, List, Option, Some, None, length, nat_le, ◌&&◌, ◌⊎◌, subst, sym, ◌∙◌, ap, refl, inl, inr, arith}
-use Rattle.iob_base.specs.Counts.{Rose}
-use Rattle.std.proofs.lemmas.Bool.{leb-true, leb-false, lt-leb}
+use Rattle.std.proofs.Common.{◌≡◌, ℕ, ◌<◌, Bool, true, false, List, [], Option, Some, None, Result, Ok, Err, IfOk, length, nat_le, subst, sym, ◌∙◌, ap, refl, inl, inr, arith, if◌then◌else◌}
+use Rattle.std.proofs.lemmas.Bool.{leb-true, leb-false, lt-ltb}
 use Rattle.fault_device.specs.Opening.{Opening}
-use Rattle.iomap_replay.specs.Endings.{IsWritten, IsAnswer, ShowsText, BeginsText, Ends, number_of}
-use Rattle.iomap_replay.specs.OnePread.{TEXT_LIMIT, script_of, script_of_lines}
-use Rattle.iomap_replay.specs.Fields.{provided}
-use Rattle.iomap_replay.specs.Words.{is_ended, kept_lines}
-use Rattle.io_model.specs.declared.script.Script.{Script}
-use Rattle.iomap_replay.specs.Statuses.{IsOutput, IsTextOf, NOT_YET, Shows, ShowsRun, StopsShort, WasWhole}
+use Rattle.io_script.specs.Grammar.{TEXT_LIMIT, refusal_of, refusal_from}
+use Rattle.io_script.specs.GrammarWords.{pieces}
+use Rattle.io_script.specs.declared.read.cause.Cause.TheVariants.{TooMuch}
+use Rattle.iomap_replay.specs.Endings.{IsTold, IsWritten, IsAnswer, Ends, HasEnded, number_of}
+use Rattle.iomap_replay.specs.Refusals.{IsNoScript}
+use Rattle.iomap_replay.specs.Statuses.{Replays, Checks, WasWhole, IsTextOf, WasReadFor, WroteWhole}
 use Rattle.iomap_replay.specs.Streams.{ReadTold, TookWhole}
-use Rattle.iomap_replay.specs.declared.top.Ending.{Ending}
-use Rattle.iomap_replay.specs.declared.top.Ending.TheVariants.{Whole, Errors, Refused, SourceFailed, SinkFailed, NoMemory, BadWords}
-use Rattle.iomap_replay.specs.declared.top.Output.{Output}
-use Rattle.iomap_replay.specs.declared.top.Output.TheVariants.{Refusal, Text}
+use Rattle.iomap_replay.specs.declared.ending.Ending.{Ending}
+use Rattle.iomap_replay.specs.declared.ending.Ending.TheVariants.{Whole, Errors, Refused, SourceFailed, SinkFailed, NoMemory, BadWords}
+use Rattle.iomap_replay.specs.declared.ending.Output.{Output}
 
-shown_as : (text : List ℕ) (openings : List Opening) (written : List ℕ) (failed told : Bool) (taken after : Option (List ℕ))
-    → Shows text openings written failed → failed ≡ told → TookWhole taken written after → ShowsText text openings told taken after
-shown_as text openings written failed told taken after shows is took =
-    let P : Bool → Type 0 = λ f. Shows text openings written f in
-    record { written = written; shows = subst P is shows; took = took }
+-- what is said of a text that is too long is its refusal, which is that of every such text
+pub record IsSaying (Says : List ℕ → Ending → List ℕ → Type 0) : Type 0 where
+  pub told : (text : List ℕ) (ending : Ending) (written : List ℕ) → Says text ending written → IsTold ending
+  pub far : (text bytes : List ℕ) (ending : Ending) (written : List ℕ) → TEXT_LIMIT < length text → TEXT_LIMIT < length bytes → Says text ending written
+      → (ending ≡ Refused) × Says bytes Refused written
 
--- what was to be written, and what became of it, is the answer to the text
-pub answered : (text : List ℕ) (openings : List Opening) (output : Output) (ending : Ending) (before now : ℕ) (taken after : Option (List ℕ))
-    → IsOutput text openings output → IsWritten output ending before now taken after → IsAnswer text openings ending before now taken after
-answered text openings Refusal Refused before now taken after out writes = (out, writes)
-answered text openings Refusal SinkFailed before now taken after out writes =
-    (writes.0, record { written = NOT_YET; output = record { one_of = inr (out, refl) }; took = writes.1 })
-answered text openings (Text written failed) Whole before now taken after out writes = shown_as text openings written.items failed false taken after out writes.1 writes.0
-answered text openings (Text written failed) Errors before now taken after out writes = shown_as text openings written.items failed true taken after out writes.1 writes.0
-answered text openings (Text written failed) SinkFailed before now taken after out writes =
-    (writes.0, record { written = written.items; output = record { one_of = inl (failed, out) }; took = writes.1 })
-answered text openings Refusal Whole before now taken after out writes = absurd writes
-answered text openings Refusal Errors before now taken after out writes = absurd writes
-answered text openings Refusal SourceFailed before now taken after out writes = absurd writes
-answered text openings Refusal NoMemory before now taken after out writes = absurd writes
-answered text openings Refusal BadWords before now taken after out writes = absurd writes
-answered text openings (Text written failed) Refused before now taken after out writes = absurd writes
-answered text openings (Text written failed) SourceFailed before now taken after out writes = absurd writes
-answered text openings (Text written failed) NoMemory before now taken after out writes = absurd writes
-answered text openings (Text written failed) BadWords before now taken after out writes = absurd writes
+-- a text that is too long has this refusal
+long_is_refused : (text : List ℕ) → TEXT_LIMIT < length text → refusal_of text ≡ Some (0, TooMuch)
+long_is_refused text long = ap (λ (t : Bool). if t then Some (0, TooMuch) else refusal_from [] 1 (pieces 10 text)) (lt-ltb _ _ long)
 
--- a text that is a script has no more bytes than a script may have
-script_is_short : (text : List ℕ) (script : Script) → script_of text ≡ Some script → length text ≤ TEXT_LIMIT
-script_is_short text script is = by_test (nat_le (length text) TEXT_LIMIT) refl
+long_is_no_script : {A : Type 0} (text : List ℕ) → TEXT_LIMIT < length text → refusal_of text ≡ None → A
+long_is_no_script text long none = absurd (let both : None ≡ Some (0, TooMuch) = sym none ∙ long_is_refused text long in cc)
+
+no_script_far : (text bytes written : List ℕ) → TEXT_LIMIT < length text → TEXT_LIMIT < length bytes → IsNoScript text written → IsNoScript bytes written
+no_script_far text bytes written long far is =
+    record { line = is.line; cause = is.cause; refused = long_is_refused bytes far ∙ sym (long_is_refused text long) ∙ is.refused; says = is.says }
+
+pub checks_say : IsSaying Checks
+checks_say = record { told = told; far = far }
   where
-    by_test : (t : Bool) → nat_le (length text) TEXT_LIMIT ≡ t → length text ≤ TEXT_LIMIT
-    by_test true fits = leb-true _ _ fits
-    by_test false long =
-        let none : script_of text ≡ None = ap (λ (t : Bool). provided (t && is_ended text) (script_of_lines (kept_lines text))) long in
-        absurd (let both : None ≡ Some script = sym none ∙ is in cc)
+    told : (text : List ℕ) (ending : Ending) (written : List ℕ) → Checks text ending written → IsTold ending
+    told text Whole written says = tt
+    told text Refused written says = tt
+    told text Errors written says = tt
+    told text SourceFailed written says = says
+    told text SinkFailed written says = says
+    told text NoMemory written says = says
+    told text BadWords written says = says
 
--- a text that is too long is no script
-long_is_none : (text : List ℕ) → TEXT_LIMIT < length text → script_of text ≡ None
-long_is_none text long = ap (λ (t : Bool). provided (t && is_ended text) (script_of_lines (kept_lines text))) (lt-leb _ _ long)
+    far : (text bytes : List ℕ) (ending : Ending) (written : List ℕ) → TEXT_LIMIT < length text → TEXT_LIMIT < length bytes → Checks text ending written
+        → (ending ≡ Refused) × Checks bytes Refused written
+    far text bytes Whole written long longer says = long_is_no_script text long says.is.script.not_refused
+    far text bytes Refused written long longer says = (refl, no_script_far text bytes written long longer says)
+    far text bytes Errors written long longer says = absurd says
+    far text bytes SourceFailed written long longer says = absurd says
+    far text bytes SinkFailed written long longer says = absurd says
+    far text bytes NoMemory written long longer says = absurd says
+    far text bytes BadWords written long longer says = absurd says
 
--- what was read and is a script is what the source told
-was_whole : (left now : Option (List ℕ)) (text : List ℕ) → length text ≤ TEXT_LIMIT → ReadTold left text now → WasWhole left text now
-was_whole None now text short read = tt
-was_whole (Some bytes) now text short read = let w = read.whole short in (sym w.0, w.1)
+pub replays_say : (openings : List Opening) → IsSaying (Replays openings)
+replays_say openings = record { told = told; far = far }
+  where
+    told : (text : List ℕ) (ending : Ending) (written : List ℕ) → Replays openings text ending written → IsTold ending
+    told text Whole written says = tt
+    told text Refused written says = tt
+    told text Errors written says = tt
+    told text SourceFailed written says = says
+    told text SinkFailed written says = says
+    told text NoMemory written says = says
+    told text BadWords written says = says
+
+    far : (text bytes : List ℕ) (ending : Ending) (written : List ℕ) → TEXT_LIMIT < length text → TEXT_LIMIT < length bytes → Replays openings text ending written
+        → (ending ≡ Refused) × Replays openings bytes Refused written
+    far text bytes Whole written long longer says = long_is_no_script text long says.is_script.not_refused
+    far text bytes Errors written long longer says = long_is_no_script text long says.is_script.not_refused
+    far text bytes Refused written long longer (inl says) = (refl, inl (no_script_far text bytes written long longer says))
+    far text bytes Refused written long longer (inr says) = long_is_no_script text long says.is_script.not_refused
+    far text bytes SourceFailed written long longer says = absurd says
+    far text bytes SinkFailed written long longer says = absurd says
+    far text bytes NoMemory written long longer says = absurd says
+    far text bytes BadWords written long longer says = absurd says
 
 is_text_of : (left now : Option (List ℕ)) (text : List ℕ) → WasWhole left text now → IsTextOf left text
 is_text_of None now text whole = tt
 is_text_of (Some bytes) now text whole = whole.0
 
--- what was read and is no script tells that the source's text is none
-record NoScript (left : Option (List ℕ)) : Type 0 where
+read_for : (ending : Ending) (left now : Option (List ℕ)) (text : List ℕ) → WasWhole left text now → WasReadFor ending left text now
+read_for Refused left now text whole = is_text_of left now text whole
+read_for Whole left now text whole = whole
+read_for Errors left now text whole = whole
+read_for SourceFailed left now text whole = whole
+read_for SinkFailed left now text whole = whole
+read_for NoMemory left now text whole = whole
+read_for BadWords left now text whole = whole
+
+-- what was read and is said of it tell what is said of the source's text
+record WasSaid (Says : List ℕ → Ending → List ℕ → Type 0) (ending : Ending) (written : List ℕ) (left now : Option (List ℕ)) : Type 0 where
   text : List ℕ
+  read : WasReadFor ending left text now
   is : IsTextOf left text
-  none : script_of text ≡ None
+  says : Says text ending written
 
-no_script : (left now : Option (List ℕ)) (text : List ℕ) → ReadTold left text now → script_of text ≡ None → NoScript left
-no_script None now text read none = record { text = text; is = tt; none = none }
-no_script (Some bytes) now text read none = record { text = bytes; is = refl; none = by_test (nat_le (length text) TEXT_LIMIT) refl }
+was_said : (Says : List ℕ → Ending → List ℕ → Type 0) → IsSaying Says → (ending : Ending) (written text : List ℕ) (left now : Option (List ℕ))
+    → ReadTold left text now → Says text ending written → WasSaid Says ending written left now
+was_said Says saying ending written text None now read says = record { text = text; read = read_for ending None now text tt; is = tt; says = says }
+was_said Says saying ending written text (Some bytes) now read says = by_test (nat_le (length text) TEXT_LIMIT) refl
   where
-    by_test : (t : Bool) → nat_le (length text) TEXT_LIMIT ≡ t → script_of bytes ≡ None
-    by_test true fits = ap script_of (sym (read.whole (leb-true _ _ fits)).0) ∙ none
-    by_test false long = long_is_none bytes (read.beyond (leb-false _ _ long))
+    by_test : (t : Bool) → nat_le (length text) TEXT_LIMIT ≡ t → WasSaid Says ending written (Some bytes) now
+    by_test true fits =
+        let whole = read.whole (leb-true _ _ fits) in
+        record { text = text; read = read_for ending (Some bytes) now text (sym whole.0, whole.1); is = sym whole.0; says = says }
+    by_test false long =
+        let beyond = leb-false _ _ long in
+        let far = saying.far text bytes ending written beyond (read.beyond beyond) says in
+        let P : Ending → Type 0 = λ e. WasSaid Says e written (Some bytes) now in
+        subst P (sym far.0) (record { text = bytes; read = refl; is = refl; says = far.1 })
 
-short_stop : (openings : List Opening) (left now taken after : Option (List ℕ)) (text : List ℕ) → ReadTold left text now → BeginsText text openings taken after
-    → StopsShort openings left taken after
-short_stop openings left now taken after text read begins = by_output begins.output.one_of
-  where
-    by_output : ((failed : Bool) × Shows text openings begins.written failed) ⊎ ((script_of text ≡ None) × (begins.written ≡ NOT_YET)) → StopsShort openings left taken after
-    by_output (inl shown) = record {
-      text = text;
-      written = begins.written;
-      read = is_text_of left now text (was_whole left now text (script_is_short text shown.1.script shown.1.is_script) read);
-      output = record { one_of = inl shown };
-      took = begins.took;
-    }
-    by_output (inr refused) =
-        let none = no_script left now text read refused.0 in
-        record { text = none.text; written = begins.written; read = none.is; output = record { one_of = inr (none.none, refused.1) }; took = begins.took }
+wrote : (Says : List ℕ → Ending → List ℕ → Type 0) (ending : Ending) (written : List ℕ) (left now taken after : Option (List ℕ)) → WasSaid Says ending written left now
+    → TookWhole taken written after → WroteWhole Says ending left now taken after
+wrote Says ending written left now taken after said took = record { text = said.text; written = written; read = said.read; says = said.says; took = took }
 
-shows_run : (openings : List Opening) (failed : Bool) (left now taken after : Option (List ℕ)) (text : List ℕ) → ReadTold left text now → ShowsText text openings failed taken after
-    → ShowsRun openings failed left now taken after
-shows_run openings failed left now taken after text read shown = record {
-  text = text;
-  written = shown.written;
-  read = was_whole left now text (script_is_short text shown.shows.script shown.shows.is_script) read;
-  shows = shown.shows;
-  took = shown.took;
+-- what was written whole is how the call ends
+told_whole : (Says : List ℕ → Ending → List ℕ → Type 0) (ending : Ending) (written : List ℕ) (s s' k k' : ℕ) (left left' taken taken' : Option (List ℕ)) → IsTold ending
+    → WasSaid Says ending written left left' → TookWhole taken written taken' → Ends Says ending s s' k k' left left' taken taken'
+told_whole Says Whole written s s' k k' left left' taken taken' told said took = wrote Says Whole written left left' taken taken' said took
+told_whole Says Errors written s s' k k' left left' taken taken' told said took = wrote Says Errors written left left' taken taken' said took
+told_whole Says Refused written s s' k k' left left' taken taken' told said took = wrote Says Refused written left left' taken taken' said took
+told_whole Says SourceFailed written s s' k k' left left' taken taken' told said took = absurd told
+told_whole Says SinkFailed written s s' k k' left left' taken taken' told said took = absurd told
+told_whole Says NoMemory written s s' k k' left left' taken taken' told said took = absurd told
+told_whole Says BadWords written s s' k k' left left' taken taken' told said took = absurd told
+
+-- what was to be written of a text that was read, and what became of it, is how the call ends
+pub ended : (Says : List ℕ → Ending → List ℕ → Type 0) → IsSaying Says → (text : List ℕ) (output : Output) (ending : Ending) (s s' k k' : ℕ) (left left' taken taken' : Option (List ℕ))
+    → ReadTold left text left' → Says text output.ending output.written.items → IsWritten output ending k k' taken taken' → Ends Says ending s s' k k' left left' taken taken'
+ended Says saying text output ending s s' k k' left left' taken taken' read says (inl whole) =
+    let P : Ending → Type 0 = λ e. Ends Says e s s' k k' left left' taken taken' in
+    let said = was_said Says saying output.ending output.written.items text left left' read says in
+    subst P (sym whole.0) (told_whole Says output.ending output.written.items s s' k k' left left' taken taken' (saying.told _ _ _ says) said whole.1)
+ended Says saying text output ending s s' k k' left left' taken taken' read says (inr part) =
+    let P : Ending → Type 0 = λ e. Ends Says e s s' k k' left left' taken taken' in
+    let said = was_said Says saying output.ending output.written.items text left left' read says in
+    subst P (sym part.0) (part.1, record { text = said.text; written = output.written.items; ending = output.ending; read = said.is; says = said.says; took = part.2 })
+
+-- an ending tells its status, and each status its clause
+by_ending : (Says : List ℕ → Ending → List ℕ → Type 0) (ending : Ending) (s s' k k' : ℕ) (left left' taken taken' : Option (List ℕ))
+    → Ends Says ending s s' k k' left left' taken taken' → HasEnded Says (number_of ending) s s' k k' left left' taken taken'
+by_ending Says Whole s s' k k' left left' taken taken' ends = record {
+  known = refl;
+  whole = λ is. ends;
+  errors = λ is. absurd (omega (arith, is));
+  refused = λ is. absurd (omega (arith, is));
+  source_failed = λ is. absurd (omega (arith, is));
+  sink_failed = λ is. absurd (omega (arith, is));
+  no_memory = λ is. absurd (omega (arith, is));
 }
+by_ending Says Errors s s' k k' left left' taken taken' ends = record {
+  known = refl;
+  whole = λ is. absurd (omega (arith, is));
+  errors = λ is. ends;
+  refused = λ is. absurd (omega (arith, is));
+  source_failed = λ is. absurd (omega (arith, is));
+  sink_failed = λ is. absurd (omega (arith, is));
+  no_memory = λ is. absurd (omega (arith, is));
+}
+by_ending Says Refused s s' k k' left left' taken taken' ends = record {
+  known = refl;
+  whole = λ is. absurd (omega (arith, is));
+  errors = λ is. absurd (omega (arith, is));
+  refused = λ is. ends;
+  source_failed = λ is. absurd (omega (arith, is));
+  sink_failed = λ is. absurd (omega (arith, is));
+  no_memory = λ is. absurd (omega (arith, is));
+}
+by_ending Says SourceFailed s s' k k' left left' taken taken' ends = record {
+  known = refl;
+  whole = λ is. absurd (omega (arith, is));
+  errors = λ is. absurd (omega (arith, is));
+  refused = λ is. absurd (omega (arith, is));
+  source_failed = λ is. ends;
+  sink_failed = λ is. absurd (omega (arith, is));
+  no_memory = λ is. absurd (omega (arith, is));
+}
+by_ending Says SinkFailed s s' k k' left left' taken taken' ends = record {
+  known = refl;
+  whole = λ is. absurd (omega (arith, is));
+  errors = λ is. absurd (omega (arith, is));
+  refused = λ is. absurd (omega (arith, is));
+  source_failed = λ is. absurd (omega (arith, is));
+  sink_failed = λ is. ends;
+  no_memory = λ is. absurd (omega (arith, is));
+}
+by_ending Says NoMemory s s' k k' left left' taken taken' ends = record {
+  known = refl;
+  whole = λ is. absurd (omega (arith, is));
+  errors = λ is. absurd (omega (arith, is));
+  refused = λ is. absurd (omega (arith, is));
+  source_failed = λ is. absurd (omega (arith, is));
+  sink_failed = λ is. absurd (omega (arith, is));
+  no_memory = λ is. ends;
+}
+by_ending Says BadWords s s' k k' left left' taken taken' ends = absurd ends
 
--- the answer to a text that was read is how the replay ends
-pub ended : (openings : List Opening) (text : List ℕ) (ending : Ending) (s s' k k' : ℕ) (left left' taken taken' : Option (List ℕ))
-    → ReadTold left text left' → IsAnswer text openings ending k k' taken taken' → Ends openings ending s s' k k' left left' taken taken'
-ended openings text Whole s s' k k' left left' taken taken' read answer = shows_run openings false left left' taken taken' text read answer
-ended openings text Errors s s' k k' left left' taken taken' read answer = shows_run openings true left left' taken taken' text read answer
-ended openings text Refused s s' k k' left left' taken taken' read answer =
-    let none = no_script left left' text read answer.0 in record { text = none.text; read = none.is; not_built = none.none; took = answer.1 }
-ended openings text SourceFailed s s' k k' left left' taken taken' read answer = absurd answer
-ended openings text SinkFailed s s' k k' left left' taken taken' read answer = (answer.0, short_stop openings left left' taken taken' text read answer.1)
-ended openings text NoMemory s s' k k' left left' taken taken' read answer = answer
-ended openings text BadWords s s' k k' left left' taken taken' read answer = absurd answer
+pub has_ended : (Says : List ℕ → Ending → List ℕ → Type 0) (ending : Ending) (status s s' k k' : ℕ) (left left' taken taken' : Option (List ℕ)) → status ≡ number_of ending
+    → Ends Says ending s s' k k' left left' taken taken' → HasEnded Says status s s' k k' left left' taken taken'
+has_ended Says ending status s s' k k' left left' taken taken' is ends =
+    let P : ℕ → Type 0 = λ n. HasEnded Says n s s' k k' left left' taken taken' in
+    subst P (sym is) (by_ending Says ending s s' k k' left left' taken taken' ends)
 
--- the ending whose status is 4 is that of a sink that failed
-pub sink_failed : (openings : List Opening) (ending : Ending) (n s s' k k' : ℕ) (left left' taken taken' : Option (List ℕ))
-    → n ≡ number_of ending → n ≡ 4 → Ends openings ending s s' k k' left left' taken taken' → Rose k k' × StopsShort openings left taken taken'
-sink_failed openings Whole n s s' k k' left left' taken taken' is four ends = absurd (omega (arith, is, four))
-sink_failed openings Errors n s s' k k' left left' taken taken' is four ends = absurd (omega (arith, is, four))
-sink_failed openings Refused n s s' k k' left left' taken taken' is four ends = absurd (omega (arith, is, four))
-sink_failed openings SourceFailed n s s' k k' left left' taken taken' is four ends = absurd (omega (arith, is, four))
-sink_failed openings SinkFailed n s s' k k' left left' taken taken' is four ends = ends
-sink_failed openings NoMemory n s s' k k' left left' taken taken' is four ends = absurd (omega (arith, is, four))
-sink_failed openings BadWords n s s' k k' left left' taken taken' is four ends = absurd (omega (arith, is, four))
+-- what is to be written of a text that was read, or the want of memory for it, and what became of it, is how the call ends
+pub answered : {E : Type 0} (Says : List ℕ → Ending → List ℕ → Type 0) → IsSaying Says → (text : List ℕ) (result : Result Output E) (ending : Ending) (s s' k k' : ℕ) (left left' taken taken' : Option (List ℕ))
+    → ReadTold left text left' → IfOk result (λ output. Says text output.ending output.written.items) → IsAnswer result ending k k' taken taken' → Ends Says ending s s' k k' left left' taken taken'
+answered Says saying text (Ok output) ending s s' k k' left left' taken taken' read says answer = ended Says saying text output ending s s' k k' left left' taken taken' read says answer
+answered Says saying text (Err e) ending s s' k k' left left' taken taken' read says answer =
+    let P : Ending → Type 0 = λ e. Ends Says e s s' k k' left left' taken taken' in
+    subst P (sym answer.0) answer.1

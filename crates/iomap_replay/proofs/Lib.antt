@@ -1,7 +1,7 @@
-pub mod Cuts
 pub mod Devices
 pub mod Endings
 pub mod Firsts
+pub mod JobOf
 pub mod Joined
 pub mod OneContents
 pub mod OneFile
@@ -10,7 +10,6 @@ pub mod OneRead
 pub mod Outcome
 pub mod ReadRun
 pub mod RightRun
-pub mod Shapes
 pub mod Spans
 pub mod Tables
 pub mod Written

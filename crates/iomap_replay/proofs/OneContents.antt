@@ -26,11 +26,10 @@ use Rattle.iomap_replay.proofs.Joined.{between-taken, piece-joined}
 use Rattle.iomap_replay.proofs.Spans.{LiesAcross, among, met}
 use Rattle.iomap_replay.specs.Facts.{IsShape, is_whole}
 use Rattle.iomap_replay.specs.Jobs.{script_of_job}
-use Rattle.iomap_replay.specs.OnePread.{one_call}
+use Rattle.iomap_replay.specs.Jobs.{one_call}
 use Rattle.iomap_replay.specs.OneRead.{joined_from}
 use Rattle.iomap_replay.specs.Runs.{is_among, read_stamp, sector_with}
-use Rattle.iomap_replay.specs.Words.{Word}
-use Rattle.iomap_replay.specs.declared.script.Job.{Job}
+use Rattle.iomap_replay.specs.declared.job.Job.{Job}
 
 pub bytes_eq-refl : (bytes : List ℕ) → bytes_eq bytes bytes ≡ true
 bytes_eq-refl [] = refl
@@ -65,13 +64,13 @@ sector_whole content size None whole = refl
 sector_whole content size (Some d) whole = eq-eqb _ _ (whole d)
 
 -- the bytes of a device block are as many as a block has
-pub length-device_bytes : (name : Word) (job : Job) (given : List (ℕ × List ℕ)) (d : ℕ) → IsShape job.device job.geometry job.blocks job.extent job.asked
+pub length-device_bytes : (name : List ℕ) (job : Job) (given : List (ℕ × List ℕ)) (d : ℕ) → IsShape job.device job.geometry job.blocks job.extent job.asked
     → list_all (is_whole job.device) given ≡ true → length (device_bytes (script_of_job name job given) d) ≡ job.geometry.block_size
 length-device_bytes name job given d shape whole =
     length-given_or job.device given (replicate job.geometry.block_size job.device.fill) d whole (length-replicate _ _ ∙ shape.size) ∙ sym shape.size
 
 -- the content of a block is as many bytes as a block has
-pub length-opening : (name : Word) (job : Job) (given : List (ℕ × List ℕ)) → IsShape job.device job.geometry job.blocks job.extent job.asked
+pub length-opening : (name : List ℕ) (job : Job) (given : List (ℕ × List ℕ)) → IsShape job.device job.geometry job.blocks job.extent job.asked
     → list_all (is_whole job.device) given ≡ true → (b : ℕ) → length (opening_content (script_of_job name job given) 0 b) ≡ job.geometry.block_size
 length-opening name job given shape whole b = by_number (mapped_number (kind_at (job.extent ∷ []) b))
   where
@@ -105,7 +104,7 @@ between-equal opening size b k off n c got whole lies here is =
     ∙ ap (λ i. take (to - from) (drop x (opening i))) (sym place)
     ∙ sym (ap (λ l. take l (drop x (opening c))) many)
 
-pub gives-here : (name : Word) (job : Job) (given : List (ℕ × List ℕ)) (b k c : ℕ) (end : CallEnd) (block : BlockEnd)
+pub gives-here : (name : List ℕ) (job : Job) (given : List (ℕ × List ℕ)) (b k c : ℕ) (end : CallEnd) (block : BlockEnd)
     → IsShape job.device job.geometry job.blocks job.extent job.asked → list_all (is_whole job.device) given ≡ true → IsAt job b k → is_among b k c ≡ true
     → end.answer.reply ≡ Ok job.asked.length Whole → block.journal ≡ read_stamp ∷ []
     → end.got ≡ take job.asked.length (drop (job.asked.off - b * job.geometry.block_size) (joined_from (opening_content (script_of_job name job given) 0) b k))
@@ -135,7 +134,7 @@ gives-here name job given b k c end block shape whole at here reply journal got 
     ∙ ap cut part ∙ equal
 
 -- a block that was not answered is not asked after
-pub gives-elsewhere : (name : Word) (job : Job) (given : List (ℕ × List ℕ)) (c : ℕ) (end : CallEnd) (block : BlockEnd)
+pub gives-elsewhere : (name : List ℕ) (job : Job) (given : List (ℕ × List ℕ)) (c : ℕ) (end : CallEnd) (block : BlockEnd)
     → is_answered (script_of_job name job given) (one_call job.asked) end.answer.reply c ≡ false
     → gives_block (script_of_job name job given) 1 (one_call job.asked) end c block ≡ true
 gives-elsewhere name job given c end block none = not_asked _ _ none

@@ -16,7 +16,7 @@ use Rattle.iomap_replay.proofs.OneFile.{rest_at, steps, start_rest}
 use Rattle.iomap_replay.specs.Devices.{blocks_with, content_given, first_number}
 use Rattle.iomap_replay.specs.Facts.{LiesOn}
 use Rattle.iomap_replay.specs.Jobs.{IsJobOf}
-use Rattle.iomap_replay.specs.declared.script.Job.{Job}
+use Rattle.iomap_replay.specs.declared.job.Job.{Job}
 use Rattle.range_core.specs.Kinds.{kinds_from, numbers_of}
 use Rattle.range_core.specs.Opening.{CanOpen, LiesIn}
 

@@ -14,11 +14,10 @@ use Rattle.io_model.specs.declared.run.CallEnd.{CallEnd}
 use Rattle.iomap_replay.proofs.Spans.{LiesAcross, begins-first, meets-among, meets-elsewhere, size-some}
 use Rattle.iomap_replay.specs.Facts.{IsShape}
 use Rattle.iomap_replay.specs.Jobs.{script_of_job}
-use Rattle.iomap_replay.specs.OnePread.{one_call}
+use Rattle.iomap_replay.specs.Jobs.{one_call}
 use Rattle.iomap_replay.specs.OneRead.{block_of, count_of}
 use Rattle.iomap_replay.specs.Runs.{is_among, read_stamp}
-use Rattle.iomap_replay.specs.Words.{Word}
-use Rattle.iomap_replay.specs.declared.script.Job.{Job}
+use Rattle.iomap_replay.specs.declared.job.Job.{Job}
 
 -- what the proofs need of a job: its range begins in a block and meets so many, which are of the extent
 -- and of the file
@@ -64,7 +63,7 @@ is_at job shape =
     }
 
 -- the range of the call is not cut
-pub range-is : (name : Word) (job : Job) (data_blocks : List (ℕ × List ℕ)) (b k : ℕ) → IsAt job b k
+pub range-is : (name : List ℕ) (job : Job) (data_blocks : List (ℕ × List ℕ)) (b k : ℕ) → IsAt job b k
     → range_of (script_of_job name job data_blocks) (one_call job.asked) ≡ span job.asked.off (job.asked.off + job.asked.length)
 range-is name job data_blocks b k at =
     let size = job.geometry.block_size in
@@ -73,7 +72,7 @@ range-is name job data_blocks b k at =
     ap (span job.asked.off) cut
 
 -- the reply of a whole read speaks of its whole range
-pub answered-whole : (name : Word) (job : Job) (data_blocks : List (ℕ × List ℕ)) (b k : ℕ) → IsAt job b k
+pub answered-whole : (name : List ℕ) (job : Job) (data_blocks : List (ℕ × List ℕ)) (b k : ℕ) → IsAt job b k
     → answered_span (script_of_job name job data_blocks) (one_call job.asked) (Ok job.asked.length Whole) ≡ span job.asked.off (job.asked.off + job.asked.length)
 answered-whole name job data_blocks b k at =
     let n = job.asked.off + job.asked.length in
@@ -81,25 +80,25 @@ answered-whole name job data_blocks b k at =
     let same : min n n ≡ n = omega arith in
     ap f (range-is name job data_blocks b k at) ∙ ap (span job.asked.off) same
 
-pub is_answered-here : (name : Word) (job : Job) (data_blocks : List (ℕ × List ℕ)) (b k c : ℕ) → IsAt job b k → is_among b k c ≡ true
+pub is_answered-here : (name : List ℕ) (job : Job) (data_blocks : List (ℕ × List ℕ)) (b k c : ℕ) → IsAt job b k → is_among b k c ≡ true
     → is_answered (script_of_job name job data_blocks) (one_call job.asked) (Ok job.asked.length Whole) c ≡ true
 is_answered-here name job data_blocks b k c at here =
     ap (λ s. meets job.geometry.block_size s c) (answered-whole name job data_blocks b k at) ∙ meets-among job.geometry.block_size b k job.asked.off job.asked.length c at.lies here
 
-pub is_answered-elsewhere : (name : Word) (job : Job) (data_blocks : List (ℕ × List ℕ)) (b k c : ℕ) → IsAt job b k → is_among b k c ≡ false
+pub is_answered-elsewhere : (name : List ℕ) (job : Job) (data_blocks : List (ℕ × List ℕ)) (b k c : ℕ) → IsAt job b k → is_among b k c ≡ false
     → is_answered (script_of_job name job data_blocks) (one_call job.asked) (Ok job.asked.length Whole) c ≡ false
 is_answered-elsewhere name job data_blocks b k c at other =
     ap (λ s. meets job.geometry.block_size s c) (answered-whole name job data_blocks b k at) ∙ meets-elsewhere job.geometry.block_size b k job.asked.off job.asked.length c at.lies other
 
 -- a read that failed answered nowhere
-pub is_answered-failed : (name : Word) (job : Job) (data_blocks : List (ℕ × List ℕ)) (fault : Fault) (c : ℕ)
+pub is_answered-failed : (name : List ℕ) (job : Job) (data_blocks : List (ℕ × List ℕ)) (fault : Fault) (c : ℕ)
     → is_answered (script_of_job name job data_blocks) (one_call job.asked) (Err fault 0) c ≡ false
 is_answered-failed name job data_blocks fault c =
     let size = job.geometry.block_size in
     let none : min 0 ((c + 1) * size) ≤ max 0 (c * size) = omega arith in
     le-ltb _ _ none
 
-pub touches-here : (name : Word) (job : Job) (data_blocks : List (ℕ × List ℕ)) (b k c : ℕ) → IsAt job b k → is_among b k c ≡ true
+pub touches-here : (name : List ℕ) (job : Job) (data_blocks : List (ℕ × List ℕ)) (b k c : ℕ) → IsAt job b k → is_among b k c ≡ true
     → touches (script_of_job name job data_blocks) (one_call job.asked) c ≡ true
 touches-here name job data_blocks b k c at here =
     ap (λ s. meets job.geometry.block_size s c) (range-is name job data_blocks b k at) ∙ meets-among job.geometry.block_size b k job.asked.off job.asked.length c at.lies here
@@ -111,18 +110,18 @@ by_block true stamps test here elsewhere = here refl
 by_block false stamps test here elsewhere = elsewhere refl
 
 -- the one stamp names the call
-pub named-here : (name : Word) (job : Job) (data_blocks : List (ℕ × List ℕ)) (b k c : ℕ) → IsAt job b k → is_among b k c ≡ true
+pub named-here : (name : List ℕ) (job : Job) (data_blocks : List (ℕ × List ℕ)) (b k c : ℕ) → IsAt job b k → is_among b k c ≡ true
     → are_named_once (script_of_job name job data_blocks) (0 ∷ []) 0 c (read_stamp ∷ []) ≡ true
 named-here name job data_blocks b k c at here = ap (λ (t : Bool). ((t && true) && true) && true) (touches-here name job data_blocks b k c at here)
 
 -- the call stands where it answered
-pub answered-here : (name : Word) (job : Job) (data_blocks : List (ℕ × List ℕ)) (b k c : ℕ) (end : CallEnd) → IsAt job b k → is_among b k c ≡ true
+pub answered-here : (name : List ℕ) (job : Job) (data_blocks : List (ℕ × List ℕ)) (b k c : ℕ) (end : CallEnd) → IsAt job b k → is_among b k c ≡ true
     → end.answer.reply ≡ Ok job.asked.length Whole → are_answered (script_of_job name job data_blocks) (end ∷ []) 0 c (read_stamp ∷ []) ≡ true
 answered-here name job data_blocks b k c end at here reply =
     let script = script_of_job name job data_blocks in
     ap (λ (t : Bool). t && true) (ap (λ r. is_answered script (one_call job.asked) r c) reply ∙ is_answered-here name job data_blocks b k c at here)
 
-pub answered-elsewhere : (name : Word) (job : Job) (data_blocks : List (ℕ × List ℕ)) (c : ℕ) (end : CallEnd)
+pub answered-elsewhere : (name : List ℕ) (job : Job) (data_blocks : List (ℕ × List ℕ)) (c : ℕ) (end : CallEnd)
     → is_answered (script_of_job name job data_blocks) (one_call job.asked) end.answer.reply c ≡ false
     → are_answered (script_of_job name job data_blocks) (end ∷ []) 0 c [] ≡ true
 answered-elsewhere name job data_blocks c end none = ap (λ (t : Bool). not t && true) none

@@ -23,7 +23,7 @@ use Rattle.iomap_replay.specs.Devices.{blocks_with, first_number}
 use Rattle.iomap_replay.specs.Jobs.{IsJobOf, script_of_job}
 use Rattle.iomap_replay.specs.OneRead.{block_of, count_of, opened_range, GaveRange, GaveNothing, IsOutcome}
 use Rattle.iomap_replay.specs.Runs.{is_among, read_stamp, one_run}
-use Rattle.iomap_replay.specs.declared.script.Job.{Job}
+use Rattle.iomap_replay.specs.declared.job.Job.{Job}
 use Rattle.range_core.proofs.CellLemmas.{length-cells_of, length-kinds_from, kinds-cells_of}
 use Rattle.range_core.specs.Cells.{cells_of}
 use Rattle.range_core.specs.Kinds.{kinds_from}

@@ -27,7 +27,7 @@ use Rattle.iomap_replay.specs.Devices.{blocks_with, first_number}
 use Rattle.iomap_replay.specs.Jobs.{IsJobOf, script_of_job}
 use Rattle.iomap_replay.specs.OneRead.{blank, block_of, bytes_of, count_of, joined_from, opened_range, GaveRange, GaveNothing, IsOutcome, IsWholeEnd}
 use Rattle.iomap_replay.specs.Runs.{read_stamp, sector_with}
-use Rattle.iomap_replay.specs.declared.script.Job.{Job}
+use Rattle.iomap_replay.specs.declared.job.Job.{Job}
 use Rattle.range_core.specs.Cells.{cells_of, cold_cell, sectors_after}
 use Rattle.range_core.specs.Events.{with_stamps}
 use Rattle.range_core.specs.Kinds.{kinds_from}

@@ -29,11 +29,10 @@ use Rattle.iomap_replay.proofs.OneRead.{IsAt, by_block, named-here, answered-her
 use Rattle.iomap_replay.proofs.Tables.{each_from-tabulated, length-tabulated}
 use Rattle.iomap_replay.specs.Facts.{IsShape, is_whole}
 use Rattle.iomap_replay.specs.Jobs.{script_of_job}
-use Rattle.iomap_replay.specs.OnePread.{one_call, one_file}
+use Rattle.iomap_replay.specs.Jobs.{one_call, one_file}
 use Rattle.iomap_replay.specs.OneRead.{joined_from}
 use Rattle.iomap_replay.specs.Runs.{is_among, read_stamp, one_run, read_end, sector_with, tabulated}
-use Rattle.iomap_replay.specs.Words.{Word}
-use Rattle.iomap_replay.specs.declared.script.Job.{Job}
+use Rattle.iomap_replay.specs.declared.job.Job.{Job}
 
 -- the mapped blocks of a file with one extent
 abbrev pub mapped_in : Job → ℕ → Option ℕ
@@ -84,7 +83,7 @@ lawful script job read stamps file end free lanes is call = record {
 }
 
 -- the final contents, block by block
-contents : (name : Word) (job : Job) (given : List (ℕ × List ℕ)) (read : ℕ → Bool) (stamps : List Stamp) (file : FileEnd) (end : CallEnd) (free : List DeviceBlock) (lanes : List LaneEnd)
+contents : (name : List ℕ) (job : Job) (given : List (ℕ × List ℕ)) (read : ℕ → Bool) (stamps : List Stamp) (file : FileEnd) (end : CallEnd) (free : List DeviceBlock) (lanes : List LaneEnd)
     → IsReadFile (script_of_job name job given) job read stamps file → IsReadCall (script_of_job name job given) job read stamps file end
     → IsFinalContent (script_of_job name job given) (one_run end file free lanes)
 contents name job given read stamps file end free lanes is call =
@@ -104,7 +103,7 @@ contents name job given read stamps file end free lanes is call =
     (λ _. ap (λ bytes. bytes_eq bytes (opening_content script 0 i)) opening ∙ bytes_eq-refl (opening_content script 0 i)))
 
 -- the file fits: each block has a whole sector exactly where it is mapped
-file_fits : (name : Word) (job : Job) (given : List (ℕ × List ℕ)) (d : ℕ) (read : ℕ → Bool) (stamps : List Stamp) (file : FileEnd)
+file_fits : (name : List ℕ) (job : Job) (given : List (ℕ × List ℕ)) (d : ℕ) (read : ℕ → Bool) (stamps : List Stamp) (file : FileEnd)
     → IsShape job.device job.geometry job.blocks job.extent job.asked → list_all (is_whole job.device) given ≡ true → job.extent.kind ≡ Mapped d
     → IsReadFile (script_of_job name job given) job read stamps file
     → is_file_end job.geometry.block_size (one_file job.blocks job.extent) file ≡ true
@@ -126,7 +125,7 @@ file_fits name job given d read stamps file shape whole kind is =
     ap (λ (t : Bool). t && (is_merged_from 0 job.blocks file.extents && each_from (is_block_end size file.extents) 0 file.blocks)) many
     ∙ ap (λ (t : Bool). t && each_from (is_block_end size file.extents) 0 file.blocks) is.merged ∙ each
 
-fits : (name : Word) (job : Job) (given : List (ℕ × List ℕ)) (d : ℕ) (read : ℕ → Bool) (stamps : List Stamp) (file : FileEnd) (end : CallEnd) (free : List DeviceBlock) (lanes : List LaneEnd)
+fits : (name : List ℕ) (job : Job) (given : List (ℕ × List ℕ)) (d : ℕ) (read : ℕ → Bool) (stamps : List Stamp) (file : FileEnd) (end : CallEnd) (free : List DeviceBlock) (lanes : List LaneEnd)
     → IsShape job.device job.geometry job.blocks job.extent job.asked → list_all (is_whole job.device) given ≡ true → job.extent.kind ≡ Mapped d
     → IsReadFile (script_of_job name job given) job read stamps file → IsReadCall (script_of_job name job given) job read stamps file end
     → length lanes ≡ 17 → Fits (script_of_job name job given) (one_run end file free lanes)
@@ -139,7 +138,7 @@ fits name job given d read stamps file end free lanes shape whole kind is call m
 }
 
 -- a run of one read is right
-pub right_run : (name : Word) (job : Job) (given : List (ℕ × List ℕ)) (d : ℕ) (read : ℕ → Bool) (stamps : List Stamp) (file : FileEnd) (end : CallEnd) (free : List DeviceBlock) (lanes : List LaneEnd)
+pub right_run : (name : List ℕ) (job : Job) (given : List (ℕ × List ℕ)) (d : ℕ) (read : ℕ → Bool) (stamps : List Stamp) (file : FileEnd) (end : CallEnd) (free : List DeviceBlock) (lanes : List LaneEnd)
     → IsShape job.device job.geometry job.blocks job.extent job.asked → list_all (is_whole job.device) given ≡ true → job.extent.kind ≡ Mapped d
     → IsReadFile (script_of_job name job given) job read stamps file → IsReadCall (script_of_job name job given) job read stamps file end
     → length lanes ≡ 17 → RunIsRight (script_of_job name job given) (0 ∷ []) (one_run end file free lanes)
@@ -153,7 +152,7 @@ right_run name job given d read stamps file end free lanes shape whole kind is c
 }
 
 -- the end of a read that gave its whole range
-pub whole_read : (name : Word) (job : Job) (given : List (ℕ × List ℕ)) (b k : ℕ) (file : FileEnd) (end : CallEnd)
+pub whole_read : (name : List ℕ) (job : Job) (given : List (ℕ × List ℕ)) (b k : ℕ) (file : FileEnd) (end : CallEnd)
     → IsShape job.device job.geometry job.blocks job.extent job.asked → list_all (is_whole job.device) given ≡ true → IsAt job b k
     → IsReadFile (script_of_job name job given) job (is_among b k) (read_stamp ∷ []) file
     → end.answer.reply ≡ Ok job.asked.length Whole → end.pages ≡ [] → length end.got ≡ job.asked.length
@@ -191,7 +190,7 @@ whole_read name job given b k file end shape whole at is reply pages many got =
         (ap (λ r. is_answered (script_of_job name job given) (one_call job.asked) r i) reply ∙ is_answered-elsewhere name job given b k i at other)
 
 -- the end of a read that failed and gave nothing
-pub failed_read : (name : Word) (job : Job) (given : List (ℕ × List ℕ)) (read : ℕ → Bool) (file : FileEnd) (end : CallEnd) (fault : Fault)
+pub failed_read : (name : List ℕ) (job : Job) (given : List (ℕ × List ℕ)) (read : ℕ → Bool) (file : FileEnd) (end : CallEnd) (fault : Fault)
     → IsReadFile (script_of_job name job given) job read [] file → end.answer.reply ≡ Err fault 0 → is_again fault ≡ false → end.pages ≡ [] → end.got ≡ []
     → IsReadCall (script_of_job name job given) job read [] file end
 failed_read name job given read file end fault is reply waited pages got =

@@ -1,14 +1,11 @@
-use Rattle.std.specs.Prelude.{◌≡◌, ℕ, Bool, true, false, ◌||◌, ◌==◌, IsTrue, List, Option, None}
-use Rattle.fault_device.specs.Opening.{Opening}
+use Rattle.std.specs.Prelude.{◌≡◌, ◌⊎◌, ⊤, ℕ, ◌||◌, ◌==◌, IsTrue, List, Option, Result, Ok, Err}
 use Rattle.iob_base.specs.Counts.{Rose}
 use Rattle.iob_base.specs.Outside.{KeepsTold}
-use Rattle.iomap_replay.specs.OnePread.{script_of}
-use Rattle.iomap_replay.specs.Statuses.{NOT_YET, Shows, ShowsRun, Refuses, IsOutputOf, StopsShort}
+use Rattle.iomap_replay.specs.Statuses.{WroteWhole, WrotePart}
 use Rattle.iomap_replay.specs.Streams.{TookWhole, TookPrefix}
-use Rattle.iomap_replay.specs.declared.top.Ending.{Ending}
-use Rattle.iomap_replay.specs.declared.top.Ending.TheVariants.{Whole, Errors, Refused, SourceFailed, SinkFailed, NoMemory, BadWords}
-use Rattle.iomap_replay.specs.declared.top.Output.{Output}
-use Rattle.iomap_replay.specs.declared.top.Output.TheVariants.{Refusal, Text}
+use Rattle.iomap_replay.specs.declared.ending.Ending.{Ending}
+use Rattle.iomap_replay.specs.declared.ending.Ending.TheVariants.{Whole, Errors, Refused, SourceFailed, SinkFailed, NoMemory, BadWords}
+use Rattle.iomap_replay.specs.declared.ending.Output.{Output}
 
 -- the exit status of an ending
 abbrev pub number_of : Ending → ℕ
@@ -20,46 +17,44 @@ number_of SinkFailed = 4
 number_of NoMemory = 5
 number_of BadWords = 64
 
+-- how a call ends whose text was written whole
+abbrev pub IsTold : Ending → Type 0
+IsTold Whole = ⊤
+IsTold Errors = ⊤
+IsTold Refused = ⊤
+IsTold _ = ⊥
+
 -- a sink took the whole output, or it failed: its count rose, and it has the beginning
 abbrev pub IsWritten : Output → Ending → ℕ → ℕ → Option (List ℕ) → Option (List ℕ) → Type 0
-IsWritten Refusal Refused before now taken after = TookWhole taken NOT_YET after
-IsWritten Refusal SinkFailed before now taken after = Rose before now × TookPrefix taken NOT_YET after
-IsWritten (Text written failed) Whole before now taken after = TookWhole taken written.items after × (failed ≡ false)
-IsWritten (Text written failed) Errors before now taken after = TookWhole taken written.items after × (failed ≡ true)
-IsWritten (Text written failed) SinkFailed before now taken after = Rose before now × TookPrefix taken written.items after
-IsWritten _ _ before now taken after = ⊥
+IsWritten output ending before now taken after =
+    ((ending ≡ output.ending) × TookWhole taken output.written.items after)
+    ⊎ ((ending ≡ SinkFailed) × Rose before now × TookPrefix taken output.written.items after)
 
--- a sink took the text of a right run, whole
-pub record ShowsText (text : List ℕ) (openings : List Opening) (failed : Bool) (taken after : Option (List ℕ)) : Type 0 where
-  pub written : List ℕ
-  pub shows : Shows text openings written failed
-  pub took : TookWhole taken written after
+-- what became of an output, or of the want of memory for one
+abbrev pub IsAnswer : {E : Type 0} → Result Output E → Ending → ℕ → ℕ → Option (List ℕ) → Option (List ℕ) → Type 0
+IsAnswer (Ok output) ending before now taken after = IsWritten output ending before now taken after
+IsAnswer (Err _) ending before now taken after = (ending ≡ NoMemory) × KeepsTold taken after
 
--- a sink took the beginning of what was to be written
-pub record BeginsText (text : List ℕ) (openings : List Opening) (taken after : Option (List ℕ)) : Type 0 where
-  pub written : List ℕ
-  pub output : IsOutputOf openings text written
-  pub took : TookPrefix taken written after
+-- how a call ends: by its ending, what the source's and the sink's counts did, and what the sink took
+abbrev pub Ends : (List ℕ → Ending → List ℕ → Type 0) → Ending → ℕ → ℕ → ℕ → ℕ → Option (List ℕ) → Option (List ℕ) → Option (List ℕ) → Option (List ℕ) → Type 0
+Ends Says Whole s s' k k' left left' taken taken' = WroteWhole Says Whole left left' taken taken'
+Ends Says Errors s s' k k' left left' taken taken' = WroteWhole Says Errors left left' taken taken'
+Ends Says Refused s s' k k' left left' taken taken' = WroteWhole Says Refused left left' taken taken'
+Ends Says SourceFailed s s' k k' left left' taken taken' = Rose s s' × KeepsTold taken taken'
+Ends Says SinkFailed s s' k k' left left' taken taken' = Rose k k' × WrotePart Says left taken taken'
+Ends Says NoMemory s s' k k' left left' taken taken' = KeepsTold taken taken'
+Ends Says BadWords s s' k k' left left' taken taken' = ⊥
 
--- how a text that was read is answered
-abbrev pub IsAnswer : List ℕ → List Opening → Ending → ℕ → ℕ → Option (List ℕ) → Option (List ℕ) → Type 0
-IsAnswer text openings Whole before now taken after = ShowsText text openings false taken after
-IsAnswer text openings Errors before now taken after = ShowsText text openings true taken after
-IsAnswer text openings Refused before now taken after = (script_of text ≡ None) × TookWhole taken NOT_YET after
-IsAnswer text openings SinkFailed before now taken after = Rose before now × BeginsText text openings taken after
-IsAnswer text openings NoMemory before now taken after = KeepsTold taken after
-IsAnswer text openings _ before now taken after = ⊥
-
--- how a replay ends: by its ending, what the source's and the sink's counts did, and what the sink took
-abbrev pub Ends : List Opening → Ending → ℕ → ℕ → ℕ → ℕ → Option (List ℕ) → Option (List ℕ) → Option (List ℕ) → Option (List ℕ) → Type 0
-Ends openings Whole s s' k k' left left' taken taken' = ShowsRun openings false left left' taken taken'
-Ends openings Errors s s' k k' left left' taken taken' = ShowsRun openings true left left' taken taken'
-Ends openings Refused s s' k k' left left' taken taken' = Refuses left taken taken'
-Ends openings SourceFailed s s' k k' left left' taken taken' = Rose s s' × KeepsTold taken taken'
-Ends openings SinkFailed s s' k k' left left' taken taken' = Rose k k' × StopsShort openings left taken taken'
-Ends openings NoMemory s s' k k' left left' taken taken' = KeepsTold taken taken'
-Ends openings BadWords s s' k k' left left' taken taken' = KeepsTold taken taken'
-
--- a status that a replay may have
-abbrev pub IsStatus : ℕ → Type 0
-IsStatus n = IsTrue (n == 0 || n == 1 || n == 2 || n == 3 || n == 4 || n == 5 || n == 64)
+-- How a call of this status has ended: status by status, what was written, and for a failure its cause.
+-- `Says` tells what the call writes of a text, by its ending
+pub record HasEnded (Says : List ℕ → Ending → List ℕ → Type 0) (status s s' k k' : ℕ) (left left' taken taken' : Option (List ℕ)) : Type 0 where
+  -- no other status comes
+  pub known : IsTrue (status == 0 || status == 1 || status == 2 || status == 3 || status == 4 || status == 5)
+  -- the text was read, and what is said of it was written whole
+  pub whole : status ≡ 0 → WroteWhole Says Whole left left' taken taken'
+  pub errors : status ≡ 1 → WroteWhole Says Errors left left' taken taken'
+  pub refused : status ≡ 2 → WroteWhole Says Refused left left' taken taken'
+  -- the source's or the sink's count rose, or there was no memory
+  pub source_failed : status ≡ 3 → Rose s s' × KeepsTold taken taken'
+  pub sink_failed : status ≡ 4 → Rose k k' × WrotePart Says left taken taken'
+  pub no_memory : status ≡ 5 → KeepsTold taken taken'

@@ -3,8 +3,8 @@ use Rattle.iob_base.specs.Geometry.{is_block_size}
 use Rattle.iob_base.specs.Layout.{Layout}
 use Rattle.io_model.specs.declared.file.Extent.{Extent}
 use Rattle.io_model.specs.declared.file.Kind.TheVariants.{Mapped}
-use Rattle.iomap_replay.specs.declared.lines.Asked.{Asked}
-use Rattle.iomap_replay.specs.declared.lines.Device.{Device}
+use Rattle.iomap_replay.specs.declared.job.Asked.{Asked}
+use Rattle.iomap_replay.specs.declared.job.Device.{Device}
 
 -- a device of 1 to 65,536 whole blocks
 pub record IsDevice (d : Device) : Type 0 where

@@ -2,13 +2,11 @@ pub mod Causes
 pub mod Devices
 pub mod Endings
 pub mod Facts
-pub mod Fields
+pub mod Form
 pub mod Jobs
-pub mod Lines
-pub mod Numbers
-pub mod OnePread
 pub mod OneRead
+pub mod Refusals
 pub mod Runs
 pub mod Statuses
 pub mod Streams
-pub mod Words
+pub mod Tasks

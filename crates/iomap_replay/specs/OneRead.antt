@@ -15,7 +15,7 @@ use Rattle.io_model.specs.declared.script.Script.{Script}
 use Rattle.iomap_replay.specs.Devices.{blocks_with, first_number}
 use Rattle.iomap_replay.specs.Facts.{first_block, blocks_met}
 use Rattle.iomap_replay.specs.Runs.{read_stamp}
-use Rattle.iomap_replay.specs.declared.script.Job.{Job}
+use Rattle.iomap_replay.specs.declared.job.Job.{Job}
 use Rattle.range_core.specs.Events.{with_stamps}
 use Rattle.range_core.specs.RangeView.{RangeView, range_of}
 use Rattle.range_core.specs.Stamps.{stamps_from}

@@ -1,5 +1,5 @@
 use Rattle.std.specs.Prelude.{◌≡◌, ℕ, ◌<◌, ◌≤◌, Option, Some, List, [], ◌++◌, length, take, IfSome}
-use Rattle.iomap_replay.specs.OnePread.{TEXT_LIMIT}
+use Rattle.io_script.specs.Grammar.{TEXT_LIMIT}
 
 -- what was read of these bytes: all of them, and nothing is left; or more than a script may have, as
 -- the bytes then are too

@@ -2,9 +2,9 @@
 ghost use Rattle.std.specs.Prelude.{◌≡◌, ◌+◌, ◌<◌, ◌≤◌, true, IsTrue};
 ghost use Rattle.iob_base.specs.Geometry.{is_block_size, is_folio_blocks};
 ghost use Rattle.iomap_replay.specs.Facts.{LiesInFolio, first_block, last_block, blocks_met};
-ghost use Rattle.iomap_replay.specs.OnePread.{is_in_one_folio};
+ghost use Rattle.iomap_replay.specs.Form.{is_in_one_folio};
 
-use crate::lines::Asked;
+use crate::job::Asked;
 use io_model::Extent;
 
 /// The most blocks that one transfer moves.

@@ -5,7 +5,7 @@ ghost use Rattle.iob_base.specs.DeviceBlock.{device_block};
 ghost use Rattle.iomap_replay.specs.Devices.{blocks_with, content_given};
 ghost use Rattle.iomap_replay.specs.Facts.{is_whole};
 
-use crate::lines::Device;
+use crate::job::Device;
 use iob_base::{Geometry, Items, Sector, sectors};
 use std::alloc::{AllocError, Global};
 

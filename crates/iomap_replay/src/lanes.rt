@@ -5,8 +5,8 @@ ghost use Rattle.io_model.specs.Right.{RunIsRight};
 ghost use Rattle.iomap_replay.specs.Causes.{AreCaused};
 ghost use Rattle.iomap_replay.specs.Jobs.{IsJobOf};
 
+use crate::job::Job;
 use crate::run::run_script;
-use crate::script::Job;
 use fault_device::{Fate, Lane};
 use io_model::{LaneEnd, Run, Script};
 use std::alloc::{AllocError, Global};

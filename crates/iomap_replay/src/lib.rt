@@ -1,19 +1,20 @@
-//! The call that replays a script: from its bytes to the printed bytes of its run.
+//! The call that replays a script: from its bytes to the printed bytes of its run. And the call that
+//! only says whether a text is a script.
 #![tactic(auto)]
 
 mod blocks;
-mod bytes;
+mod check;
 mod device;
-mod fields;
+mod ending;
+mod job;
 mod lanes;
-mod lines;
-mod numbers;
+mod output;
 mod range;
 mod read;
 mod run;
-mod script;
 mod streams;
+mod task;
 mod top;
-mod words;
 
-pub use top::{Ending, replay};
+pub use check::check_script;
+pub use top::replay;

@@ -7,7 +7,7 @@ ghost use Rattle.iomap_replay.specs.Jobs.{IsJobOf};
 ghost use Rattle.range_core.specs.RangeView.{range_of};
 
 use crate::device::device_blocks;
-use crate::script::Job;
+use crate::job::Job;
 use io_model::{Extent, Kind, Script};
 use iob_base::{Mode, Sector};
 use range_core::Range;

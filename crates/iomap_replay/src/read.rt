@@ -9,7 +9,7 @@ ghost use Rattle.fault_device.specs.LaneView.{lane_seen};
 ghost use Rattle.fault_device.specs.Opening.{Opening, Serves};
 
 use crate::blocks::{begin_of, count_of};
-use crate::script::Job;
+use crate::job::Job;
 use arrayvec::ArrayVec;
 use fault_device::Lane;
 use io_model::{CallEnd, Script};

@@ -9,9 +9,9 @@ ghost use Rattle.iomap_replay.specs.Runs.{quiet_close as quiet_close_answer, one
 ghost use Rattle.fault_device.specs.LaneView.{lane_seen};
 ghost use Rattle.fault_device.specs.Opening.{Opening, Serves};
 
+use crate::job::Job;
 use crate::range::{open_range, sectors_of};
 use crate::read::read_once;
-use crate::script::Job;
 use fault_device::Lane;
 use io_model::{CallEnd, FileEnd, LaneEnd, Run, Script, Unmounted};
 use iob_base::{Answer, Items, Reply, Sector, Stop};

@@ -4,7 +4,7 @@ ghost use Rattle.iob_base.specs.Counts.{Rose};
 ghost use Rattle.iob_base.specs.Outside.{HasCause};
 ghost use Rattle.iomap_replay.specs.Streams.{ReadTold, TookWhole, TookPrefix};
 
-use crate::script::TEXT_LIMIT;
+use io_script::TEXT_LIMIT;
 use iob_base::{Failed, Sink, Source};
 use std::alloc::{AllocError, Global};
 

@@ -12,6 +12,8 @@ mod pool;
 #[cfg(test)]
 mod replays;
 #[cfg(test)]
+mod scripts;
+#[cfg(test)]
 mod small;
 #[cfg(test)]
 mod turns;

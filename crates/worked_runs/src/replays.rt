@@ -59,7 +59,7 @@ const TWO_FOLIOS: &[u8] =
 const PAST_THE_EXTENT: &[u8] =
     b"iomap 1\ndev 16 4 c3\nfolio 2\nfile f cached 4\next f 0 0 1 mapped\nphase\n0 pread f 15 2\n";
 
-const ROWS: [Row; 16] = [
+const ROWS: [Row; 19] = [
     Row {
         script: OWN_BYTES,
         words: &[],
@@ -94,7 +94,7 @@ const ROWS: [Row; 16] = [
         sink_fails: &[],
         transfers_fail: &[],
         status: 2,
-        written: b"refused line 0 cause 14 NotYet\n",
+        written: b"refused line 1 cause 1 NoHeader\n",
     },
     Row {
         script: OWN_BYTES,
@@ -112,6 +112,33 @@ const ROWS: [Row; 16] = [
         sink_fails: &[1],
         transfers_fail: &[],
         status: 4,
+        written: b"",
+    },
+    Row {
+        script: OWN_BYTES,
+        words: &["--check"],
+        source_fails: &[],
+        sink_fails: &[],
+        transfers_fail: &[1],
+        status: 0,
+        written: b"ok files 1 phases 1 calls 1\nend\n",
+    },
+    Row {
+        script: b"",
+        words: &["--check"],
+        source_fails: &[],
+        sink_fails: &[],
+        transfers_fail: &[],
+        status: 2,
+        written: b"refused line 1 cause 1 NoHeader\n",
+    },
+    Row {
+        script: OWN_BYTES,
+        words: &["--check", "--check"],
+        source_fails: &[],
+        sink_fails: &[],
+        transfers_fail: &[],
+        status: 64,
         written: b"",
     },
     Row {

@@ -7,7 +7,7 @@ use Rattle.iomap_replay.proofs.ReadRun.{begins_in, can_read, gave, if_ok, reache
 use Rattle.iomap_replay.proofs.Spans.{size-some}
 use Rattle.io_model.specs.declared.script.Script.{Script}
 use Rattle.iomap_replay.specs.Jobs.{IsJobOf}
-use Rattle.iomap_replay.specs.declared.script.Job.{Job}
+use Rattle.iomap_replay.specs.declared.job.Job.{Job}
 use Rattle.iomap_replay.specs.OneRead.{blank, block_of, bytes_of, count_of, opened_range, IsOutcome, IsWholeEnd}
 use Rattle.iomap_replay.specs.Runs.{read_stamp}
 use Rattle.range_core.specs.Events.{with_stamps}
