@@ -345,6 +345,31 @@ fn long_text(alloc: Global, long: &Long) -> Result<Vec<u8>, AllocError> {
     Ok(text)
 }
 
+// The script of a database file and its log: four callers write the file past the page cache, and a fifth logs.
+fn database_text(alloc: Global) -> Result<Vec<u8>, AllocError> {
+    let mut text = Vec::new(alloc);
+    text.extend_from_slice(
+        b"iomap 1\ndev 4096 4096 00\nfolio 16\nfile db cached 2048\nfile log cached 64\nphase\n0 alloc db 0 8388608\n0 dwrite db 0 5ax8388608\nphase\n",
+    )?;
+    for number in 0..256u64 {
+        let (caller, nth) = (number / 64, number % 64);
+        let at = (512 * caller + 8 * nth) * 4096;
+        let line = format!(in alloc; "{caller} dwrite db {at} 6{caller}x4096\n")?;
+        text.extend_from_slice(line.as_bytes())?;
+    }
+    for number in 0..16u64 {
+        let line = format!(in alloc; "4 pwrite log {} 6cx1000\n", 1000 * number)?;
+        text.extend_from_slice(line.as_bytes())?;
+        if number % 4 == 3 {
+            text.extend_from_slice(b"4 sync log\n")?;
+        }
+    }
+    text.extend_from_slice(
+        b"phase\n0 punch db 0 4194304\n0 pread log 0 16\n0 dread db 4194304 4096\n",
+    )?;
+    Ok(text)
+}
+
 // Checks a text, and gives the status with what was written.
 fn check_text(alloc: Global, text: Vec<u8>) -> (u8, MemSink) {
     let mut source = MemSource::new(text, Vec::new(alloc));
@@ -372,5 +397,17 @@ fn limits_are_kept(rt: HostRuntime) -> Result<(), Fail> {
         assert_eq!(rt; status, long.status);
         assert_eq!(rt; sink.bytes(), long.written);
     }
+    Ok(())
+}
+
+#[test]
+fn database_and_log_are_a_script(rt: HostRuntime) -> Result<(), Fail> {
+    let alloc = rt.alloc();
+    let (status, sink) = check_text(alloc, database_text(alloc)?);
+    assert_eq!(rt; status, 0);
+    assert_eq!(rt;
+        sink.bytes(),
+        b"ok files 2 phases 3 calls 281\nend\n".as_slice()
+    );
     Ok(())
 }
