@@ -6,6 +6,7 @@ pub mod Extents
 pub mod Hexes
 pub mod Items
 pub mod Marking
+pub mod Naming
 pub mod Places
 pub mod Reading
 pub mod Runs

@@ -47,7 +47,7 @@ fold-append f a [] ys = refl
 fold-append f a (x ∷ xs) ys = fold-append f (f a x) xs ys
 
 -- what the lines say with one more line
-so_far-piece : (earlier : List (List Word)) (line : List ℕ) → so_far (with_piece earlier line) ≡ next_said (so_far earlier) line
+pub so_far-piece : (earlier : List (List Word)) (line : List ℕ) → so_far (with_piece earlier line) ≡ next_said (so_far earlier) line
 so_far-piece earlier line =
     fold-append (λ s ws. with_line s (fields_of ws)) nothing earlier (filter is_kept (words line ∷ [])) ∙ by_test (is_kept (words line))
   where

@@ -13,7 +13,7 @@ mod read;
 mod reply;
 mod run;
 
-pub use one_reading::text_has_one_reading;
+pub use one_reading::{scripts_name_their_files, text_has_one_reading};
 pub use ranges::{numbers_of_a_run, numbers_of_a_script};
 pub use read::{
     Cause, Checked, ScriptFault, TEXT_LIMIT, print_check, print_refusal, read_checked, read_script,
