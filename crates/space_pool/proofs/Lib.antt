@@ -1,9 +1,10 @@
 mod Weighing
 mod TakingLowest
-mod Removing
-mod Sizes
+pub mod Removing
+pub mod Sizes
 mod States
-mod Keeping
+pub mod Keeping
 mod Moving
 mod Parting
 mod Starting
+mod Standing

@@ -43,6 +43,17 @@ pub record IsClaimOn (p : PoolView) (c : ClaimsView) : Type 0 where
   pub numbers : length c.numbers + length p.free ≤ length p.numbers
   pub reserved : c.reserved ≤ p.reserved
 
+-- These are claims on this pool side by side: of its block size, and together no more than it lacks and has reserved
+pub record AreClaimsOn (p : PoolView) (c d : ClaimsView) : Type 0 where
+  pub size : c.size ≡ p.size
+  pub other_size : d.size ≡ p.size
+  pub numbers : length c.numbers + length d.numbers + length p.free ≤ length p.numbers
+  pub reserved : c.reserved + d.reserved ≤ p.reserved
+
+-- whatever claims stood beside the first on the first pool stand beside the second on the second pool
+abbrev pub KeepsOthers : PoolView → ClaimsView → PoolView → ClaimsView → Type 0
+KeepsOthers p c q d = (other : ClaimsView) → AreClaimsOn p c other → AreClaimsOn q d other
+
 abbrev pub more_reserved : PoolView → ℕ → PoolView
 more_reserved p n = record p { reserved = p.reserved + n }
 

@@ -2,7 +2,7 @@
 ghost use Rattle.std.specs.Prelude.{◌≡◌, ℕ, ◌+◌, ◌^◌, ◌<◌, ◌≤◌, [], ◌++◌, length, All, vec_len, vec_capacity, IfOk, IfErr, IsOk};
 ghost use Rattle.space_pool.specs.Sectors.{SameSectors, TakesLowest};
 ghost use Rattle.space_pool.specs.Claims.{numbers_of, Fits, claims_with, with_part_gone, joined_claims};
-ghost use Rattle.space_pool.specs.Pool.{fresh_pool, unreserved, HasSize, AreDistinct, IsClaimOn, counts_of, Reserves, ReservesSome, Unreserves, Takes, Gives, CanGive, CanPart};
+ghost use Rattle.space_pool.specs.Pool.{fresh_pool, unreserved, HasSize, AreDistinct, IsClaimOn, AreClaimsOn, KeepsOthers, counts_of, Reserves, ReservesSome, Unreserves, Takes, Gives, CanGive, CanPart};
 
 use crate::answer::{Counts, NoPool, NoSpace};
 use crate::claims::{PoolClaims, Step};
@@ -59,6 +59,7 @@ impl PoolState {
         ensures free { IfOk result (λ r. SameSectors free.items r.0.free) }
         ensures state { IfOk result (λ r. r.0 ≡ fresh_pool r.0.free (numbers_of held.now ++ numbers_of free.items) cap geometry.block_size) }
         ensures claims { IfOk result (λ r. r.1.facts ≡ claims_with held.now cap geometry.block_size) }
+        ensures claim { IfOk result (λ r. IsClaimOn r.0 r.1.facts) }
         ensures err { IfErr result (λ e. e.free.items ≡ free.items) }
     {
         let size = geometry.block_size();
@@ -91,7 +92,9 @@ impl PoolState {
     /// `NoSpace` exactly where fewer are unreserved. Nothing has changed then.
     pub fn reserve(&mut self, claims: &mut PoolClaims, n: u64) -> Result<(), NoSpace>
         requires { Fits claims.old.facts n }
-        ensures { Reserves n self.old claims.old.facts result self.new claims.new.facts }
+        ensures reserved { Reserves n self.old claims.old.facts result self.new claims.new.facts }
+        ensures claim { IsClaimOn self.old claims.old.facts → IsClaimOn self.new claims.new.facts }
+        ensures others { KeepsOthers self.old claims.old.facts self.new claims.new.facts }
     {
         let found = self.unreserved();
         if found < n {
@@ -110,7 +113,9 @@ impl PoolState {
     pub fn reserve_some(&mut self, claims: &mut PoolClaims, n: u64) -> Result<u64, NoSpace>
         requires fits { Fits claims.old.facts n }
         requires some { 1 ≤ n }
-        ensures { ReservesSome n self.old claims.old.facts result self.new claims.new.facts }
+        ensures reserved { ReservesSome n self.old claims.old.facts result self.new claims.new.facts }
+        ensures claim { IsClaimOn self.old claims.old.facts → IsClaimOn self.new claims.new.facts }
+        ensures others { KeepsOthers self.old claims.old.facts self.new claims.new.facts }
     {
         let found = self.unreserved();
         if found == 0 {
@@ -122,11 +127,13 @@ impl PoolState {
         Ok(some)
     }
 
-    /// Gives up the reservation of n sectors.
+    /// Gives up the reservation of n sectors. The free sectors stay.
     pub fn unreserve(&mut self, claims: &mut PoolClaims, n: u64)
         requires claim { IsClaimOn self.old claims.old.facts }
         requires reserved { n ≤ claims.old.facts.reserved }
-        ensures { Unreserves n self.old claims.old.facts self.new claims.new.facts }
+        ensures unreserved { Unreserves n self.old claims.old.facts self.new claims.new.facts }
+        ensures claim { IsClaimOn self.new claims.new.facts }
+        ensures others { KeepsOthers self.old claims.old.facts self.new claims.new.facts }
     {
         self.reserved -= n;
         *claims = PoolClaims::of(&Step::Unreserves(claims, n));
@@ -138,6 +145,8 @@ impl PoolState {
         requires reserved { n ≤ claims.old.facts.reserved }
         requires room { vec_len into.old + n ≤ vec_capacity into.old }
         ensures taken { Takes n self.old claims.old.facts into.old.items self.new claims.new.facts into.new.items }
+        ensures claim { IsClaimOn self.new claims.new.facts }
+        ensures others { KeepsOthers self.old claims.old.facts self.new claims.new.facts }
         ensures kept { vec_capacity into.new ≡ vec_capacity into.old }
     {
         let from = into.len();
@@ -151,6 +160,8 @@ impl PoolState {
         requires claim { IsClaimOn self.old claims.old.facts }
         requires can { CanGive sectors.old.items claims.old.facts }
         ensures given { Gives sectors.old.items self.old claims.old.facts self.new claims.new.facts }
+        ensures claim { IsClaimOn self.new claims.new.facts }
+        ensures others { KeepsOthers self.old claims.old.facts self.new claims.new.facts }
         ensures emptied { sectors.new.items ≡ [] }
         ensures kept { vec_capacity sectors.new ≡ vec_capacity sectors.old }
     {
@@ -168,7 +179,8 @@ impl PoolState {
         }
     }
 
-    /// Cuts these sectors and this cap off the claims, for another seat. Claims take no memory, so it does not fail.
+    /// Cuts these sectors and this cap off the claims, for another caller. The pool stays as it was, and a reservation stays with
+    /// the first. Claims take no memory, so it does not fail.
     pub fn split(
         &mut self,
         claims: &mut PoolClaims,
@@ -180,14 +192,16 @@ impl PoolState {
         ensures state { self.new ≡ self.old }
         ensures kept { claims.new.facts ≡ with_part_gone claims.old.facts held.now cap }
         ensures given { IfOk result (λ part. part.facts ≡ claims_with held.now cap claims.old.facts.size) }
+        ensures beside { IfOk result (λ part. IsClaimOn self.old claims.old.facts → AreClaimsOn self.new claims.new.facts part.facts) }
     {
         Ok(claims.split(cap, held))
     }
 
-    /// Makes two claims one.
+    /// Makes two claims one: numbers, reservations and caps of both. The pool stays as it was.
     pub fn join(&mut self, into: &mut PoolClaims, from: PoolClaims)
         ensures state { self.new ≡ self.old }
         ensures claims { into.new.facts ≡ joined_claims into.old.facts from.facts }
+        ensures claim { AreClaimsOn self.old into.old.facts from.facts → IsClaimOn self.new into.new.facts }
     {
         into.join(from);
     }

@@ -1,9 +1,9 @@
 //! The calls of a pool, each one turn at its cell.
-ghost use Rattle.std.specs.Prelude.{◌≡◌, ◌+◌, ◌<◌, ◌≤◌, [], vec_len, vec_capacity, IsOk, IfOk};
+ghost use Rattle.std.specs.Prelude.{◌≡◌, ◌+◌, ◌<◌, ◌≤◌, [], vec_len, vec_capacity, drop, IsOk, IfOk, OnOk, OnErr};
 ghost use Rattle.turn_cell.specs.Seats.{seat_view, seat_claims};
 ghost use Rattle.turn_cell.specs.Stakes.{Begins};
 ghost use Rattle.turn_cell.specs.Views.{kept_part, new_part, joined};
-ghost use Rattle.space_pool.specs.Claims.{Fits, claims_with, with_part_gone, joined_claims};
+ghost use Rattle.space_pool.specs.Claims.{Fits, claims_with, with_more, with_fewer, with_taken, with_given, with_part_gone, joined_claims};
 ghost use Rattle.space_pool.specs.Pool.{CanGive, CanPart};
 ghost use Rattle.space_pool.specs.Turns.{TurnedAt, KeepsSeat, ReserveTurns, ReserveSomeTurns, UnreserveTurns, TakeTurns, GiveTurns, CountTurns};
 
@@ -27,6 +27,8 @@ impl SpacePool {
     pub fn reserve<R: Wait>(&self, rt: &R, seat: &mut PoolSeat, n: u64) -> Result<(), NoSpace>
         requires cell { (seat_view seat.old).cell ≡ (pool_cell self.now).cell }
         requires fits { Fits (seat_claims seat.old).facts n }
+        ensures claims { OnOk result ((seat_claims seat.new).facts ≡ with_more (seat_claims seat.old).facts n) }
+        ensures err { OnErr result ((seat_claims seat.new).facts ≡ (seat_claims seat.old).facts) }
         ensures same { KeepsSeat (seat_view seat.old) (seat_view seat.new) }
         ensures turned { TurnedAt (pool_cell self.now).opening (λ history value next entry. ReserveTurns (pool_cell self.now).opening (seat_claims seat.old) (seat_claims seat.new) history value next entry n result) (seat_claims seat.old) (seat_claims seat.new) (seat_view seat.old) (seat_view seat.new) }
     {
@@ -42,6 +44,8 @@ impl SpacePool {
         requires cell { (seat_view seat.old).cell ≡ (pool_cell self.now).cell }
         requires fits { Fits (seat_claims seat.old).facts n }
         requires some { 1 ≤ n }
+        ensures claims { IfOk result (λ m. (seat_claims seat.new).facts ≡ with_more (seat_claims seat.old).facts m) }
+        ensures err { OnErr result ((seat_claims seat.new).facts ≡ (seat_claims seat.old).facts) }
         ensures same { KeepsSeat (seat_view seat.old) (seat_view seat.new) }
         ensures turned { TurnedAt (pool_cell self.now).opening (λ history value next entry. ReserveSomeTurns (pool_cell self.now).opening (seat_claims seat.old) (seat_claims seat.new) history value next entry n result) (seat_claims seat.old) (seat_claims seat.new) (seat_view seat.old) (seat_view seat.new) }
     {
@@ -52,6 +56,7 @@ impl SpacePool {
     pub fn unreserve<R: Wait>(&self, rt: &R, seat: &mut PoolSeat, n: u64)
         requires cell { (seat_view seat.old).cell ≡ (pool_cell self.now).cell }
         requires reserved { n ≤ (seat_claims seat.old).facts.reserved }
+        ensures claims { (seat_claims seat.new).facts ≡ with_fewer (seat_claims seat.old).facts n }
         ensures same { KeepsSeat (seat_view seat.old) (seat_view seat.new) }
         ensures turned { TurnedAt (pool_cell self.now).opening (λ history value next entry. UnreserveTurns (pool_cell self.now).opening (seat_claims seat.old) (seat_claims seat.new) history value next entry n) (seat_claims seat.old) (seat_claims seat.new) (seat_view seat.old) (seat_view seat.new) }
     {
@@ -64,6 +69,7 @@ impl SpacePool {
         requires cell { (seat_view seat.old).cell ≡ (pool_cell self.now).cell }
         requires reserved { n ≤ (seat_claims seat.old).facts.reserved }
         requires room { vec_len into.old + n ≤ vec_capacity into.old }
+        ensures claims { (seat_claims seat.new).facts ≡ with_taken (seat_claims seat.old).facts (drop (vec_len into.old) into.new.items) }
         ensures same { KeepsSeat (seat_view seat.old) (seat_view seat.new) }
         ensures turned { TurnedAt (pool_cell self.now).opening (λ history value next entry. TakeTurns (pool_cell self.now).opening (seat_claims seat.old) (seat_claims seat.new) history value next entry n into.old.items into.new.items) (seat_claims seat.old) (seat_claims seat.new) (seat_view seat.old) (seat_view seat.new) }
         ensures kept { vec_capacity into.new ≡ vec_capacity into.old }
@@ -75,6 +81,7 @@ impl SpacePool {
     pub fn give<R: Wait>(&self, rt: &R, seat: &mut PoolSeat, sectors: &mut Vec<Sector>)
         requires cell { (seat_view seat.old).cell ≡ (pool_cell self.now).cell }
         requires can { CanGive sectors.old.items (seat_claims seat.old).facts }
+        ensures claims { (seat_claims seat.new).facts ≡ with_given (seat_claims seat.old).facts sectors.old.items }
         ensures same { KeepsSeat (seat_view seat.old) (seat_view seat.new) }
         ensures turned { TurnedAt (pool_cell self.now).opening (λ history value next entry. GiveTurns (pool_cell self.now).opening (seat_claims seat.old) (seat_claims seat.new) history value next entry sectors.old.items) (seat_claims seat.old) (seat_claims seat.new) (seat_view seat.old) (seat_view seat.new) }
         ensures emptied { sectors.new.items ≡ [] }
@@ -86,6 +93,7 @@ impl SpacePool {
     /// How many sectors are free at its turn, and how many of these are reserved.
     pub fn counts<R: Wait>(&self, rt: &R, seat: &mut PoolSeat) -> Counts
         requires cell { (seat_view seat.old).cell ≡ (pool_cell self.now).cell }
+        ensures claims { (seat_claims seat.new).facts ≡ (seat_claims seat.old).facts }
         ensures same { KeepsSeat (seat_view seat.old) (seat_view seat.new) }
         ensures turned { TurnedAt (pool_cell self.now).opening (λ history value next entry. CountTurns (pool_cell self.now).opening (seat_claims seat.old) (seat_claims seat.new) history value next entry result) (seat_claims seat.old) (seat_claims seat.new) (seat_view seat.old) (seat_view seat.new) }
     {

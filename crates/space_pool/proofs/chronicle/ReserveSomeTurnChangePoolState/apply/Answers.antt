@@ -11,7 +11,7 @@ returns c s =
     let entry : PoolEntry = ReserveSome n c.reserve_some.result in
     record {
       entry = entry;
-      done = (c.reserve_some.ensures, record { entry_is = refl; found = s.stands.holds.told });
+      done = (c.reserve_some.ensures.reserved, record { entry_is = refl; found = s.stands.holds.told });
       holds = keeps-turn s.stands c.reserve_some.new.self c.reserve_some.new.claims entry
-          (reserve_some-moves n c.args.value.now c.args.claims.now.facts c.reserve_some.result c.reserve_some.new.self c.reserve_some.new.claims.facts c.reserve_some.ensures s.stands.holds.enough s.is_ready.0);
+          (reserve_some-moves n c.args.value.now c.args.claims.now.facts c.reserve_some.result c.reserve_some.new.self c.reserve_some.new.claims.facts c.reserve_some.ensures.reserved s.stands.holds.enough s.is_ready.0);
     }

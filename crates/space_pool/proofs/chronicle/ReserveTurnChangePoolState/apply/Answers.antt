@@ -11,7 +11,7 @@ returns c s =
     let entry : PoolEntry = Reserve n c.reserve.result in
     record {
       entry = entry;
-      done = (c.reserve.ensures, record { entry_is = refl; found = s.stands.holds.told });
+      done = (c.reserve.ensures.reserved, record { entry_is = refl; found = s.stands.holds.told });
       holds = keeps-turn s.stands c.reserve.new.self c.reserve.new.claims entry
-          (reserve-moves n c.args.value.now c.args.claims.now.facts c.reserve.result c.reserve.new.self c.reserve.new.claims.facts c.reserve.ensures s.stands.holds.enough s.is_ready);
+          (reserve-moves n c.args.value.now c.args.claims.now.facts c.reserve.result c.reserve.new.self c.reserve.new.claims.facts c.reserve.ensures.reserved s.stands.holds.enough s.is_ready);
     }

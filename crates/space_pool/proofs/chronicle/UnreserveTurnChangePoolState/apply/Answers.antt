@@ -14,7 +14,7 @@ returns c s =
     let entry : PoolEntry = Unreserve n in
     record {
       entry = entry;
-      done = (c.unreserve.ensures, record { entry_is = refl; found = s.stands.holds.told });
+      done = (c.unreserve.ensures.unreserved, record { entry_is = refl; found = s.stands.holds.told });
       holds = keeps-turn s.stands c.unreserve.new.self c.unreserve.new.claims entry
-          (unreserve-moves n c.args.value.now c.args.claims.now.facts c.unreserve.new.self c.unreserve.new.claims.facts c.unreserve.ensures s.stands.holds.enough (stands-within s.stands) (stands-claim s.stands) s.is_ready);
+          (unreserve-moves n c.args.value.now c.args.claims.now.facts c.unreserve.new.self c.unreserve.new.claims.facts c.unreserve.ensures.unreserved s.stands.holds.enough (stands-within s.stands) (stands-claim s.stands) s.is_ready);
     }

@@ -1,12 +1,13 @@
-use Rattle.std.proofs.Common.{◌≡◌, ◌+◌, ◌≤◌, sym, subst, arith, length}
+use Rattle.std.proofs.Common.{◌≡◌, ◌+◌, ◌≤◌, refl, sym, subst, arith, length}
 use Rattle.std.specs.Prelude.{All}
 use Rattle.std.proofs.lemmas.List.{length-map}
 use Rattle.iob_base.specs.DeviceBlock.{DeviceBlock}
 use Rattle.space_pool.specs.Claims.{numbers_of}
-use Rattle.space_pool.specs.Pool.{PoolView, IsClaimOn, HasSize, misfit}
+use Rattle.space_pool.specs.Pool.{PoolView, pool_view, IsClaimOn, KeepsOthers, HasSize, misfit}
 use Rattle.space_pool.proofs.Removing.{without-length}
 use Rattle.space_pool.proofs.Sizes.{none-misfits}
 use Rattle.space_pool.proofs.States.{moved-length}
+use Rattle.space_pool.proofs.Standing.{keeps-claim, keeps-others, give-balances, given-is}
 use Rattle.space_pool.proofs.state.PoolState.give.Goals as goal
 
 pub put-requires : goal.put-requires
@@ -32,3 +33,20 @@ invariant_of-self c =
       omega (arith, c.put.ensures.room, kept.1),
       omega (arith, moved (misfit inside.whole.facts.size), kept.2, none),
     )
+
+pub returns-clause-claim : goal.returns-clause-claim
+returns-clause-claim c =
+    let inside = c.self.inside in
+    let before : PoolView = pool_view inside.free.sectors inside.reserved inside.whole.facts in
+    let next : PoolView = pool_view c.put.new.self.sectors inside.reserved inside.whole.facts in
+    let claim = subst (λ (p : PoolView). IsClaimOn p c.args.claims.now.facts) (sym c.self.view_is) c.requires.claim in
+    let balances = give-balances c.args.sectors.now.items before c.args.claims.now.facts next c.of.result.facts c.requires.can (record { moved = c.put.ensures.moved; pool = refl; claims = given-is c.args.claims.now.facts c.of.result.facts c.as_slice.result.now c.args.sectors.now.items c.as_slice.ensures.value c.of.ensures }) in
+    keeps-claim before c.args.claims.now.facts next c.of.result.facts balances claim
+
+pub returns-clause-others : goal.returns-clause-others
+returns-clause-others c =
+    let inside = c.self.inside in
+    let before : PoolView = pool_view inside.free.sectors inside.reserved inside.whole.facts in
+    let next : PoolView = pool_view c.put.new.self.sectors inside.reserved inside.whole.facts in
+    let balances = give-balances c.args.sectors.now.items before c.args.claims.now.facts next c.of.result.facts c.requires.can (record { moved = c.put.ensures.moved; pool = refl; claims = given-is c.args.claims.now.facts c.of.result.facts c.as_slice.result.now c.args.sectors.now.items c.as_slice.ensures.value c.of.ensures }) in
+    subst (λ (p : PoolView). KeepsOthers p c.args.claims.now.facts next c.of.result.facts) c.self.view_is (keeps-others before c.args.claims.now.facts next c.of.result.facts balances)
