@@ -1,3 +1,4 @@
 mod FreshSectors
 mod CameBack
 mod Closing
+mod Holding

@@ -4,12 +4,12 @@ ghost use Rattle.iob_base.specs.DeviceBlock.{fresh_blocks};
 ghost use Rattle.turn_cell.specs.Seats.{seat_view, seat_claims};
 ghost use Rattle.turn_cell.specs.Views.{first_seat};
 ghost use Rattle.space_pool.specs.Claims.{numbers_of, times, claims_with};
-ghost use Rattle.space_pool.specs.Pool.{HasSize, AreDistinct};
-ghost use Rattle.worked_runs.specs.Claiming.{ClaimsNothing};
+ghost use Rattle.space_pool.specs.Pool.{HasSize, AreDistinct, IsClaimOn};
+ghost use Rattle.worked_runs.specs.Claiming.{ClaimsNothing, Holds};
 ghost use Rattle.space_pool.specs.Seats.{pool_cell};
 
 use iob_base::{Geometry, Sector, sectors};
-use space_pool::{NoPool, NoSpace, PoolClaims, PoolSeat, PoolState, SpacePool};
+use space_pool::{Counts, NoPool, NoSpace, PoolClaims, PoolSeat, PoolState, SpacePool};
 use std::alloc::Global;
 use std::process::Abort;
 use std::sync::Wait;
@@ -39,6 +39,7 @@ fn plain(alloc: Global, blocks: u32, cap: u64) -> Option<(PoolState, PoolClaims)
     ensures free { IfSome result (λ r. length r.0.free ≡ blocks) }
     ensures pool { IfSome result (λ r. (r.0.reserved ≡ 0) × (length r.0.numbers ≡ blocks) × (r.0.size ≡ 16)) }
     ensures claims { IfSome result (λ r. r.1.facts ≡ claims_with [] cap 16) }
+    ensures claim { IfSome result (λ r. IsClaimOn r.0 r.1.facts) }
 {
     let (geometry, free) = device(alloc, blocks)?;
     match PoolState::new(alloc, geometry, free, &[], cap) {
@@ -131,6 +132,115 @@ fn share_by_two<R: Threads + Wait + Sync>(
     Some(pool.close(seat))
 }
 
+// Takes one sector more where there is room for it and one is unreserved, and tells whether it did.
+fn take_one<R: Wait>(rt: &R, pool: &SpacePool, seat: &mut PoolSeat, held: &mut Vec<Sector>) -> bool
+    requires cell { (seat_view seat.old).cell ≡ (pool_cell pool.now).cell }
+    requires holds { Holds held.old.items (seat_claims seat.old).facts }
+    requires fits { vec_capacity held.old ≤ (seat_claims seat.old).facts.cap }
+    ensures seat { ((seat_view seat.new).cell ≡ (seat_view seat.old).cell) × ((seat_view seat.new).share ≡ (seat_view seat.old).share) }
+    ensures holds { Holds held.new.items (seat_claims seat.new).facts }
+    ensures kept { (vec_capacity held.new ≡ vec_capacity held.old) × ((seat_claims seat.new).facts.cap ≡ (seat_claims seat.old).facts.cap) }
+{
+    if held.len() == held.capacity() {
+        return false;
+    }
+    let Ok(()) = pool.reserve(rt, seat, 1) else {
+        return false;
+    };
+    pool.take(rt, seat, 1, held);
+    true
+}
+
+// Takes sectors one at a time until that fails, at most so often.
+fn take_each<R: Wait>(
+    rt: &R,
+    pool: &SpacePool,
+    seat: &mut PoolSeat,
+    held: &mut Vec<Sector>,
+    most: u64,
+)
+    requires cell { (seat_view seat.old).cell ≡ (pool_cell pool.now).cell }
+    requires holds { Holds held.old.items (seat_claims seat.old).facts }
+    requires fits { vec_capacity held.old ≤ (seat_claims seat.old).facts.cap }
+    ensures seat { ((seat_view seat.new).cell ≡ (seat_view seat.old).cell) × ((seat_view seat.new).share ≡ (seat_view seat.old).share) }
+    ensures holds { Holds held.new.items (seat_claims seat.new).facts }
+{
+    for _ in 0..most {
+        if !take_one(rt, pool, seat, held) {
+            break;
+        }
+    }
+}
+
+// Gives one of the held sectors back, if there is one.
+fn give_one<R: Wait>(
+    rt: &R,
+    pool: &SpacePool,
+    seat: &mut PoolSeat,
+    held: &mut Vec<Sector>,
+    one: &mut Vec<Sector>,
+)
+    requires cell { (seat_view seat.old).cell ≡ (pool_cell pool.now).cell }
+    requires holds { Holds held.old.items (seat_claims seat.old).facts }
+    requires one { (one.old.items ≡ []) × (1 ≤ vec_capacity one.old) }
+    ensures seat { ((seat_view seat.new).cell ≡ (seat_view seat.old).cell) × ((seat_view seat.new).share ≡ (seat_view seat.old).share) }
+    ensures holds { Holds held.new.items (seat_claims seat.new).facts }
+    ensures one { (one.new.items ≡ []) × (vec_capacity one.new ≡ vec_capacity one.old) }
+{
+    if let Some(sector) = held.pop() {
+        one.push_reserved(sector);
+        pool.give(rt, seat, one);
+    }
+}
+
+// Gives the held sectors back one at a time, at most so many.
+fn give_each<R: Wait>(
+    rt: &R,
+    pool: &SpacePool,
+    seat: &mut PoolSeat,
+    held: &mut Vec<Sector>,
+    one: &mut Vec<Sector>,
+    most: u64,
+)
+    requires cell { (seat_view seat.old).cell ≡ (pool_cell pool.now).cell }
+    requires holds { Holds held.old.items (seat_claims seat.old).facts }
+    requires one { (one.old.items ≡ []) × (1 ≤ vec_capacity one.old) }
+    ensures seat { ((seat_view seat.new).cell ≡ (seat_view seat.old).cell) × ((seat_view seat.new).share ≡ (seat_view seat.old).share) }
+    ensures holds { Holds held.new.items (seat_claims seat.new).facts }
+{
+    for _ in 0..most {
+        give_one(rt, pool, seat, held, one);
+    }
+}
+
+// Takes all sectors of a new pool and gives them back, one at a time. What it counts in between, and all that the pool has at its
+// end.
+fn one_at_a_time<R: Wait>(rt: &R, alloc: Global, blocks: u32) -> Option<(Counts, Vec<Sector>)> {
+    let (pool, mut seat) = started(alloc, blocks, blocks as u64)?;
+    let Ok(mut held) = Vec::with_capacity(alloc, blocks as usize) else {
+        return None;
+    };
+    let Ok(mut one) = Vec::with_capacity(alloc, 1) else {
+        return None;
+    };
+    take_each(rt, &pool, &mut seat, &mut held, blocks as u64);
+    let counts = pool.counts(rt, &mut seat);
+    give_each(rt, &pool, &mut seat, &mut held, &mut one, blocks as u64);
+    Some((counts, pool.close(seat)))
+}
+
+#[test]
+fn a_large_pool_is_emptied_and_filled_one_at_a_time(rt: HostRuntime) -> Result<(), Fail> {
+    let (counts, all) = one_at_a_time(&rt, rt.alloc(), 65_536).ok_or("there is memory")?;
+    assert_eq!(rt; counts.free, 0);
+    assert_eq!(rt; counts.reserved, 0);
+    assert_eq!(rt; all.len(), 65_536);
+    for (i, sector) in all.iter().enumerate() {
+        assert_eq!(rt; sector.number() as usize, i);
+    }
+    Ok(())
+}
+
 #[test]
 fn two_threads_leave_every_number_once(rt: HostRuntime) -> Result<(), Fail> {
     let all = share_by_two(&rt, rt.alloc(), 3, 1000).ok_or("there is memory")?;
@@ -171,6 +281,12 @@ fn three_sectors_of_a_plain_pool(rt: HostRuntime) -> Result<(), Fail> {
     let counts = state.counts();
     assert_eq!(rt; counts.free, 1);
     assert_eq!(rt; counts.reserved, 1);
+    state.unreserve(&mut claims, 1);
+    let counts = state.counts();
+    assert_eq!(rt; counts.free, 1);
+    assert_eq!(rt; counts.reserved, 0);
+    state.give(&mut claims, &mut held);
+    assert_eq!(rt; state.counts().free, 3);
     Ok(())
 }
 
@@ -196,6 +312,7 @@ fn three_sectors_of_a_shared_pool(rt: HostRuntime) -> Result<(), Fail> {
     assert_eq!(rt; counts.free, 1);
     assert_eq!(rt; counts.reserved, 0);
     pool.give(&rt, &mut seat, &mut held);
+    assert_eq!(rt; pool.counts(&rt, &mut seat).free, 3);
     assert_eq!(rt; pool.close(seat).len(), 3);
     Ok(())
 }
