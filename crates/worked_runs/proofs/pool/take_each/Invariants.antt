@@ -1,4 +1,4 @@
-use Rattle.std.proofs.Common.{◌≡◌, ◌≤◌, [], vec_capacity}
+use Rattle.std.proofs.Common.{◌≡◌, ◌≤◌, vec_capacity}
 use Rattle.turn_cell.specs.Seats.{seat_view, seat_claims}
 use Rattle.worked_runs.specs.Claiming.{Holds}
 use Rattle.worked_runs.proofs.pool.take_each.Given as goal
