@@ -1,5 +1,5 @@
 -- The one range: that it can be opened, and what can be read of it at once.
-use Rattle.std.proofs.Common.{◌≡◌, ℕ, zero, suc, ◌+◌, ◌-◌, ◌≤◌, List, [], ◌∷◌, length, map, take, drop, replicate, sym, ap, ◌∙◌, arith, subst, lit≤}
+use Rattle.std.proofs.Common.{◌≡◌, ℕ, zero, suc, ◌+◌, ◌-◌, ◌≤◌, List, [], ◌∷◌, ◌++◌, length, map, take, drop, replicate, sym, ap, ◌∙◌, arith, subst, lit≤}
 use Rattle.std.specs.Prelude.{max, All, IfSome, is_some, ◌^◌}
 use Rattle.std.specs.List.{cons_option, AllByRecursion}
 use Rattle.std.proofs.lemmas.List.Elements.{All-from_recursion}
@@ -13,12 +13,13 @@ use Rattle.io_model.specs.declared.script.Script.{Script}
 use Rattle.iomap_replay.proofs.Devices.{drop-blocks_with, take-blocks_with}
 use Rattle.iomap_replay.proofs.OneContents.{length-device_bytes}
 use Rattle.iomap_replay.proofs.OneFile.{rest_at, steps, start_rest}
-use Rattle.iomap_replay.specs.Devices.{blocks_with, content_given, first_number}
+use Rattle.iomap_replay.specs.Devices.{blocks_beside, blocks_with, content_given, first_number}
 use Rattle.iomap_replay.specs.Facts.{LiesOn}
 use Rattle.iomap_replay.specs.Jobs.{IsJobOf}
 use Rattle.iomap_replay.specs.declared.job.Job.{Job}
 use Rattle.range_core.specs.Kinds.{kinds_from, numbers_of}
-use Rattle.range_core.specs.Opening.{CanOpen, LiesIn}
+use Rattle.range_core.specs.Opening.{CanOpen, ClaimsSectors, LiesIn}
+use Rattle.range_core.specs.Space.{SpaceClaims}
 
 -- the device as it was made is the device of the script
 pub device_is : (script : Script) (job : Job) (n : ℕ) → IsJobOf script job
@@ -35,12 +36,22 @@ own_is content d n blocks within =
     ap (take n) (drop-blocks_with content 0 blocks d ∙ ap (λ p. blocks_with content p (blocks - d)) place)
     ∙ take-blocks_with content d (blocks - d) n (omega arith)
 
+-- and those before it and after it are left
+pub beside_is : (content : ℕ → Content) (d n blocks : ℕ) → d + n ≤ blocks → take d (blocks_with content 0 blocks) ++ drop n (drop d (blocks_with content 0 blocks)) ≡ blocks_beside content d n blocks
+beside_is content d n blocks within =
+    let place : 0 + d + n ≡ d + n = omega arith in
+    let many : blocks - d - n ≡ blocks - (d + n) = omega arith in
+    let front : take d (blocks_with content 0 blocks) ≡ blocks_with content 0 d = take-blocks_with content 0 blocks d (omega arith) in
+    let back : drop n (drop d (blocks_with content 0 blocks)) ≡ blocks_with content (d + n) (blocks - (d + n)) =
+    ap (drop n) (drop-blocks_with content 0 blocks d) ∙ drop-blocks_with content (0 + d) (blocks - d) n ∙ ap (λ p. blocks_with content p (blocks - d - n)) place ∙ ap (blocks_with content (d + n)) many in
+    ap (λ f. f ++ drop n (drop d (blocks_with content 0 blocks))) front ∙ ap (λ b. blocks_with content 0 d ++ b) back
+
 -- the device number of a mapped extent
 pub first_is : (e : Extent) (d : ℕ) → e.kind ≡ Mapped d → first_number e.kind ≡ d
 first_is e d kind = ap first_number kind
 
 -- every block has its bytes
-all_whole : (content : ℕ → Content) (size d n : ℕ) → ((i : ℕ) → length (content i) ≡ size) → AllByRecursion (λ (s : DeviceBlock). length s.bytes ≡ size) (blocks_with content d n)
+pub all_whole : (content : ℕ → Content) (size d n : ℕ) → ((i : ℕ) → length (content i) ≡ size) → AllByRecursion (λ (s : DeviceBlock). length s.bytes ≡ size) (blocks_with content d n)
 all_whole content size d zero whole = tt
 all_whole content size d (suc n) whole = (whole d, all_whole content size (d + 1) n whole)
 
@@ -63,19 +74,22 @@ lies_in e d blocks device_blocks kind on few within =
       numbers = subst K (sym kind) (omega (arith, few, within));
     }
 
+-- the bytes of every device block of a job's script are as many as a block has
+pub length-device : (script : Script) (job : Job) → IsJobOf script job → (i : ℕ) → length (device_bytes script i) ≡ job.geometry.block_size
+length-device script job of i = ap (λ (s : Script). length (device_bytes s i)) of.is ∙ length-device_bytes of.name job script.blocks i of.shape of.whole
+
 -- the range can be opened
-pub can_open : (script : Script) (job : Job) (own : List DeviceBlock) → IsJobOf script job
-    → own ≡ blocks_with (device_bytes script) (first_number job.extent.kind) job.extent.length
-    → CanOpen job.geometry.block_size 0 job.blocks (job.extent ∷ []) own 0
-can_open script job own of is =
+pub can_open : (script : Script) (job : Job) (own : List DeviceBlock) (space : SpaceClaims) → IsJobOf script job
+    → own ≡ blocks_with (device_bytes script) (first_number job.extent.kind) job.extent.length → ClaimsSectors job.geometry.block_size job.blocks own space
+    → CanOpen job.geometry.block_size 0 job.blocks (job.extent ∷ []) own space 0
+can_open script job own space of is claims =
     let on = of.shape.tail.extent in
     let d = on.mapped.0 in
     let kind = on.mapped.1 in
     let size = job.geometry.block_size in
     let content : ℕ → Content = device_bytes script in
     let own_are : own ≡ blocks_with content d job.extent.length = is ∙ ap (λ n. blocks_with content n job.extent.length) (first_is job.extent d kind) in
-    let whole : (i : ℕ) → length (content i) ≡ size =
-    λ i. ap (λ (s : Script). length (device_bytes s i)) of.is ∙ length-device_bytes of.name job script.blocks i of.shape of.whole in
+    let whole : (i : ℕ) → length (content i) ≡ size = length-device script job of in
     let W : List DeviceBlock → Type 0 = λ all. All (λ (s : DeviceBlock). length s.bytes ≡ size) all in
     record {
       some = omega (arith, of.shape.tail.some);
@@ -84,5 +98,6 @@ can_open script job own of is =
       sectors_are = ap (map (λ (s : DeviceBlock). s.number)) (own_are ∙ sym (start_rest content job.extent d))
           ∙ numbers-from content job.extent d kind 0 job.blocks (omega (arith, on.inside));
       whole = subst W (sym own_are) (All-from_recursion (λ (s : DeviceBlock). length s.bytes ≡ size) _ (all_whole content size d job.extent.length whole));
+      space_is = claims;
       unworn = lit≤ tt;
     }

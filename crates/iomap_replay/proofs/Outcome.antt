@@ -1,6 +1,6 @@
 -- From the outcome of the one read, and what its range left, to a right run.
-use Rattle.std.proofs.Common.{◌≡◌, ℕ, zero, suc, ◌+◌, ◌<◌, Bool, true, false, List, [], ◌∷◌, length, map, if◌then◌else◌, sym, ap, ◌∙◌, arith, subst}
-use Rattle.std.specs.Prelude.{IsTrue}
+use Rattle.std.proofs.Common.{◌≡◌, ℕ, zero, suc, ◌+◌, ◌<◌, Bool, true, false, None, List, [], ◌∷◌, length, map, if◌then◌else◌, sym, ap, ◌∙◌, arith, subst}
+use Rattle.std.specs.Prelude.{All, IsTrue}
 use Rattle.std.specs.Bool.{MatchBool}
 use Rattle.iob_base.specs.DeviceBlock.{DeviceBlock}
 use Rattle.iob_base.specs.declared.stamp.Stamp.{Stamp}
@@ -21,11 +21,13 @@ use Rattle.iomap_replay.proofs.OneRead.{is_at}
 use Rattle.iomap_replay.proofs.RightRun.{IsReadFile, right_run, whole_read, failed_read}
 use Rattle.iomap_replay.specs.Devices.{blocks_with, first_number}
 use Rattle.iomap_replay.specs.Jobs.{IsJobOf, script_of_job}
-use Rattle.iomap_replay.specs.OneRead.{block_of, count_of, opened_range, GaveRange, GaveNothing, IsOutcome}
+use Rattle.iomap_replay.specs.OneRead.{block_of, count_of, opened_range, IsOpened, GaveRange, GaveNothing, IsOutcome}
 use Rattle.iomap_replay.specs.Runs.{is_among, read_stamp, one_run}
 use Rattle.iomap_replay.specs.declared.job.Job.{Job}
 use Rattle.range_core.proofs.CellLemmas.{length-cells_of, length-kinds_from, kinds-cells_of}
+use Rattle.range_core.proofs.FirstTruth.{all_cold}
 use Rattle.range_core.specs.Cells.{cells_of}
+use Rattle.range_core.specs.Events.{with_stamps}
 use Rattle.range_core.specs.Kinds.{kinds_from}
 use Rattle.range_core.specs.RangeView.{RangeView}
 use Rattle.range_core.specs.Stamps.{bare_end, journaled, stamps_at, stamps_from}
@@ -52,10 +54,10 @@ kind_of_each xs ys b (suc n) (suc k) same within =
     subst P place (kind_of_each xs ys (b + 1) n k rest (omega arith))
 
 -- the file that the range leaves, with these stamps at the blocks that were read
-read_file : (script : Script) (job : Job) (d : ℕ) (read : ℕ → Bool) (stamps : List Stamp) (log : List (ℕ × Stamp)) (file : FileEnd) → job.extent.kind ≡ Mapped d
+read_file : (script : Script) (job : Job) (r : RangeView) (d : ℕ) (read : ℕ → Bool) (stamps : List Stamp) (log : List (ℕ × Stamp)) (file : FileEnd) → job.extent.kind ≡ Mapped d
     → ((b : ℕ) → stamps_at b log ≡ (if read b then stamps else []))
-    → IsEndOf file (record (opened_range script job) { log = log }) → IsReadFile script job read stamps file
-read_file script job d read stamps log file kind logged end =
+    → IsEndOf file (record (opened_range script job r.seat r.space) { log = log }) → IsReadFile script job read stamps file
+read_file script job r d read stamps log file kind logged end =
     let content : ℕ → Content = device_bytes script in
     let e = job.extent in
     let kinds = kinds_from (e ∷ []) 0 job.blocks in
@@ -73,19 +75,18 @@ read_file script job d read stamps log file kind logged end =
     }
 
 -- a run whose script is spelled out
-right_spelled : (script : Script) (job : Job) (end : CallEnd) (file : FileEnd) (free : List DeviceBlock) (lanes : List LaneEnd) (new : RangeView) (of : IsJobOf script job)
-    → IsOutcome (script_of_job of.name job script.blocks) job end (opened_range (script_of_job of.name job script.blocks) job) new
+right_spelled : (script : Script) (job : Job) (end : CallEnd) (file : FileEnd) (free : List DeviceBlock) (lanes : List LaneEnd) (old new : RangeView) (of : IsJobOf script job)
+    → IsOpened (script_of_job of.name job script.blocks) job old → IsOutcome (script_of_job of.name job script.blocks) job end old new
     → IsEndOf file new → length lanes ≡ 17 → RunIsRight (script_of_job of.name job script.blocks) (0 ∷ []) (one_run end file free lanes)
-right_spelled script job end file free lanes new of outcome file_end many = by_reply (is_error end.answer.reply) outcome
+right_spelled script job end file free lanes old new of opened outcome file_end many = by_reply (is_error end.answer.reply) outcome
   where
-    by_reply : (t : Bool) → MatchBool t (GaveNothing end (opened_range (script_of_job of.name job script.blocks) job) new)
-        (GaveRange (script_of_job of.name job script.blocks) job end (opened_range (script_of_job of.name job script.blocks) job) new)
+    by_reply : (t : Bool) → MatchBool t (GaveNothing end old new) (GaveRange (script_of_job of.name job script.blocks) job end old new)
         → RunIsRight (script_of_job of.name job script.blocks) (0 ∷ []) (one_run end file free lanes)
     by_reply true nothing =
         let on = of.shape.tail.extent in
         let s = script_of_job of.name job script.blocks in
         let none : ℕ → Bool = λ _. false in
-        let read = read_file s job on.mapped.0 none [] [] file on.mapped.1 (stamps_at-none none) (subst (IsEndOf file) nothing.left file_end) in
+        let read = read_file s job old on.mapped.0 none [] [] file on.mapped.1 (stamps_at-none none) (subst (IsEndOf file) opened (subst (IsEndOf file) nothing.left file_end)) in
         right_run of.name job script.blocks on.mapped.0 none [] file end free lanes of.shape of.whole on.mapped.1 read
         (failed_read of.name job script.blocks none file end nothing.fault read nothing.reply nothing.waited nothing.pages nothing.got) many
     by_reply false whole =
@@ -93,13 +94,37 @@ right_spelled script job end file free lanes new of outcome file_end many = by_r
         let s = script_of_job of.name job script.blocks in
         let b = block_of job in
         let k = count_of job in
-        let read = read_file s job on.mapped.0 (is_among b k) (read_stamp ∷ []) (stamps_from b k read_stamp) file on.mapped.1 (stamps_at-run read_stamp b k) (subst (IsEndOf file) whole.left file_end) in
+        let E : RangeView → Type 0 = λ r. IsEndOf file (with_stamps r (stamps_from b k read_stamp)) in
+        let read = read_file s job old on.mapped.0 (is_among b k) (read_stamp ∷ []) (stamps_from b k read_stamp) file on.mapped.1 (stamps_at-run read_stamp b k) (subst E opened (subst (IsEndOf file) whole.left file_end)) in
         right_run of.name job script.blocks on.mapped.0 (is_among b k) (read_stamp ∷ []) file end free lanes of.shape of.whole on.mapped.1 read
         (whole_read of.name job script.blocks b k file end of.shape of.whole (is_at job of.shape) read whole.reply whole.pages whole.many whole.got) many
 
-pub right_from_outcome : (script : Script) (job : Job) (end : CallEnd) (file : FileEnd) (free : List DeviceBlock) (lanes : List LaneEnd) (new : RangeView) (of : IsJobOf script job)
-    → IsOutcome script job end (opened_range script job) new → IsEndOf file new → length lanes ≡ 17 → RunIsRight script (0 ∷ []) (one_run end file free lanes)
-right_from_outcome script job end file free lanes new of outcome file_end many =
-    let O : Script → Type 0 = λ s. IsOutcome s job end (opened_range s job) new in
+pub right_from_outcome : (script : Script) (job : Job) (end : CallEnd) (file : FileEnd) (free : List DeviceBlock) (lanes : List LaneEnd) (old new : RangeView) (of : IsJobOf script job)
+    → IsOpened script job old → IsOutcome script job end old new → IsEndOf file new → length lanes ≡ 17 → RunIsRight script (0 ∷ []) (one_run end file free lanes)
+right_from_outcome script job end file free lanes old new of opened outcome file_end many =
+    let I : Script → Type 0 = λ s. IsOpened s job old in
+    let O : Script → Type 0 = λ s. IsOutcome s job end old new in
     let R : Script → Type 0 = λ s. RunIsRight s (0 ∷ []) (one_run end file free lanes) in
-    subst R (sym of.is) (right_spelled script job end file free lanes new of (subst O of.is outcome) file_end many)
+    subst R (sym of.is) (right_spelled script job end file free lanes old new of (subst I of.is opened) (subst O of.is outcome) file_end many)
+
+-- the read leaves the blocks and the seat at the pool as they were
+pub record KeepsRest (old new : RangeView) : Type 0 where
+  pub cells : new.cells ≡ old.cells
+  pub seat : new.seat ≡ old.seat
+  pub space : new.space ≡ old.space
+
+pub outcome_keeps : (script : Script) (job : Job) (end : CallEnd) (old new : RangeView) → IsOutcome script job end old new → KeepsRest old new
+outcome_keeps script job end old new outcome = by_reply (is_error end.answer.reply) outcome
+  where
+    by_reply : (t : Bool) → MatchBool t (GaveNothing end old new) (GaveRange script job end old new) → KeepsRest old new
+    by_reply true nothing = record { cells = ap (λ (r : RangeView). r.cells) nothing.left; seat = ap (λ (r : RangeView). r.seat) nothing.left; space = ap (λ (r : RangeView). r.space) nothing.left }
+    by_reply false whole = record { cells = ap (λ (r : RangeView). r.cells) whole.left; seat = ap (λ (r : RangeView). r.seat) whole.left; space = ap (λ (r : RangeView). r.space) whole.left }
+
+-- no block of it is away
+pub all_home : (script : Script) (job : Job) (old new : RangeView) → IsOpened script job old → KeepsRest old new → All (λ (c : Cell). c.away ≡ None) new.cells
+all_home script job old new opened keeps =
+    let H : List Cell → Type 0 = λ cells. All (λ (c : Cell). c.away ≡ None) cells in
+    let R : RangeView → Type 0 = λ r. H r.cells in
+    subst H (sym keeps.cells)
+    (subst R (sym opened)
+    (λ k d l. (all_cold (kinds_from (job.extent ∷ []) 0 job.blocks) (blocks_with (device_bytes script) (first_number job.extent.kind) job.extent.length) k d l).away))

@@ -1,12 +1,12 @@
 -- The run of blocks that is read: its cells, its bytes, and what one event reads of it.
-use Rattle.std.proofs.Common.{◌≡◌, ℕ, zero, suc, ◌+◌, ◌-◌, ◌*◌, ◌%◌, ◌<◌, ◌≤◌, Bool, true, List, [], ◌∷◌, ◌++◌, Some, Option, nat_eq, if◌then◌else◌, length, take, drop, replicate, Result, Ok, Err, refl, sym, ap, ◌∙◌, arith, subst, eq-eqb}
+use Rattle.std.proofs.Common.{◌≡◌, ℕ, zero, suc, ◌+◌, ◌-◌, ◌*◌, ◌%◌, ◌<◌, ◌≤◌, Bool, true, false, List, [], ◌∷◌, ◌++◌, Some, None, Option, nat_eq, if◌then◌else◌, length, take, drop, replicate, Result, Ok, Err, refl, sym, ap, ◌∙◌, arith, subst, eq-eqb}
 use Rattle.std.specs.Bool.{MatchBool}
-use Rattle.std.specs.List.{AllByRecursion}
+use Rattle.std.specs.List.{AllByRecursion, prefix_len}
 use Rattle.std.specs.Prelude.{All, IfOk}
 use Rattle.std.proofs.lemmas.Bool.{le-leb, lt-ltb}
 use Rattle.std.proofs.Math.Nat.{mod-eq-sub-div-mul, mod-lt}
 use Rattle.std.proofs.lemmas.List.{length-replicate}
-use Rattle.std.proofs.lemmas.List.Elements.{All-from_recursion, All-replicate, All-weaker}
+use Rattle.std.proofs.lemmas.List.Elements.{All-from_recursion, All-replicate, All-tail, All-weaker}
 use Rattle.iob_base.specs.DeviceBlock.{DeviceBlock, device_block}
 use Rattle.iob_base.specs.declared.sector.Page.{Page}
 use Rattle.io_model.specs.Contents.{Content, device_bytes, mapped_or_zeros, opening_content}
@@ -18,22 +18,26 @@ use Rattle.io_model.specs.declared.file.Kind.{Kind}
 use Rattle.io_model.specs.declared.file.Kind.TheVariants.{Hole, Mapped}
 use Rattle.io_model.specs.declared.script.Script.{Script}
 use Rattle.iomap_replay.proofs.Joined.{length-joined}
-use Rattle.iomap_replay.proofs.OneContents.{length-device_bytes, length-opening}
+use Rattle.iomap_replay.proofs.OneContents.{length-opening}
 use Rattle.iomap_replay.proofs.OneFile.{rest_at, inside, cells-dropped, start_rest}
-use Rattle.iomap_replay.proofs.OneRange.{first_is}
+use Rattle.iomap_replay.proofs.OneRange.{first_is, length-device}
 use Rattle.iomap_replay.proofs.OneRead.{is_at}
 use Rattle.iomap_replay.proofs.Spans.{size-some}
 use Rattle.iomap_replay.specs.Devices.{blocks_with, first_number}
 use Rattle.iomap_replay.specs.Jobs.{IsJobOf, script_of_job}
-use Rattle.iomap_replay.specs.OneRead.{blank, block_of, bytes_of, count_of, joined_from, opened_range, GaveRange, GaveNothing, IsOutcome, IsWholeEnd}
+use Rattle.iomap_replay.specs.OneRead.{blank, block_of, bytes_of, count_of, joined_from, opened_range, IsOpened, GaveRange, GaveNothing, IsOutcome, IsWholeEnd}
 use Rattle.iomap_replay.specs.Runs.{read_stamp, sector_with}
 use Rattle.iomap_replay.specs.declared.job.Job.{Job}
+use Rattle.range_core.proofs.CellLemmas.{length-cells_of, length-kinds_from}
+use Rattle.range_core.proofs.FirstTruth.{IsCold, all_cold}
 use Rattle.range_core.specs.Cells.{cells_of, cold_cell, sectors_after}
+use Rattle.range_core.specs.DirectNow.{CanReadNow, after_direct_now, is_clean_home, now_count, now_length, pages_filled, without_mapped_page}
 use Rattle.range_core.specs.Events.{with_stamps}
-use Rattle.range_core.specs.Kinds.{kinds_from}
-use Rattle.range_core.specs.Lending.{pages_filled}
-use Rattle.range_core.specs.RangeView.{RangeView, CanReadNow, cells_from}
-use Rattle.range_core.specs.Runs.{begins_mapped, run_length, run_from}
+use Rattle.range_core.specs.Kinds.{is_mapped, kinds_from}
+use Rattle.range_core.specs.OnRun.{on_each, on_run}
+use Rattle.range_core.specs.RangeView.{RangeView, cells_from}
+use Rattle.range_core.specs.Refusals.{◌orElse◌, away, direct_now_refusal, dirty, first_that_stops}
+use Rattle.range_core.specs.Runs.{run_length, run_from}
 use Rattle.range_core.specs.Stamps.{stamps_from}
 use Rattle.range_core.specs.declared.cell.Cell.{Cell}
 
@@ -105,8 +109,8 @@ pub record IsHere (script : Script) (b k : ℕ) (cells : List Cell) : Type 0 whe
   pub begin : BeginsWith (device_bytes script) number k cells
   pub bytes : joined_from (opening_content script 0) b k ≡ joined_from (device_bytes script) number k
 
-pub here : (script : Script) (job : Job) → IsJobOf script job → IsHere script (block_of job) (count_of job) (cells_from (opened_range script job) (block_of job))
-here script job of =
+pub here : (script : Script) (job : Job) (r : RangeView) → IsJobOf script job → IsOpened script job r → IsHere script (block_of job) (count_of job) (cells_from r (block_of job))
+here script job r of opened =
     let e = job.extent in
     let b = block_of job in
     let k = count_of job in
@@ -124,7 +128,8 @@ here script job of =
       number = d + (b - e.block);
       begin = record {
         others = run.others;
-        is = ap (λ sectors. drop (b - 0) (cells_of (kinds_from (e ∷ []) 0 job.blocks) sectors)) first
+        is = ap (λ (v : RangeView). cells_from v b) opened
+            ∙ ap (λ sectors. drop (b - 0) (cells_of (kinds_from (e ∷ []) 0 job.blocks) sectors)) first
             ∙ ap (λ i. drop i (cells_at content e d 0 job.blocks)) whole
             ∙ cells-dropped content e d kind b 0 job.blocks
             ∙ ap (λ c. cells_at content e d c (job.blocks - b)) place ∙ run.is;
@@ -133,21 +138,21 @@ here script job of =
     }
 
 -- what the pages have after a run of mapped blocks was read
-pub filled-bytes : (content : ℕ → Content) (m k : ℕ) (others : List Cell) (pages : List Page) → length pages ≡ k
-    → bytes_of (pages_filled k (mapped_run content m k ++ others) pages) ≡ joined_from content m k
-filled-bytes content m zero others [] many = refl
-filled-bytes content m zero others (p ∷ pages) many = absurd (omega (arith, many))
-filled-bytes content m (suc k) others [] many = absurd (omega (arith, many))
-filled-bytes content m (suc k) others (p ∷ pages) many =
-    ap (λ rest. content m ++ rest) (filled-bytes content (m + 1) k others pages (omega (arith, many)))
+pub filled-bytes : (content : ℕ → Content) (size m k : ℕ) (others : List Cell) (pages : List Page) → length pages ≡ k
+    → bytes_of (pages_filled size k (mapped_run content m k ++ others) pages) ≡ joined_from content m k
+filled-bytes content size m zero others [] many = refl
+filled-bytes content size m zero others (p ∷ pages) many = absurd (omega (arith, many))
+filled-bytes content size m (suc k) others [] many = absurd (omega (arith, many))
+filled-bytes content size m (suc k) others (p ∷ pages) many =
+    ap (λ rest. content m ++ rest) (filled-bytes content size (m + 1) k others pages (omega (arith, many)))
 
-filled-sized : (content : ℕ → Content) (size m k : ℕ) (others : List Cell) (pages : List Page) → ((i : ℕ) → length (content i) ≡ size) → length pages ≡ k
-    → AllByRecursion (λ (p : Page). length p.bytes ≡ size) (pages_filled k (mapped_run content m k ++ others) pages)
-filled-sized content size m zero others [] whole many = tt
-filled-sized content size m zero others (p ∷ pages) whole many = absurd (omega (arith, many))
-filled-sized content size m (suc k) others [] whole many = absurd (omega (arith, many))
-filled-sized content size m (suc k) others (p ∷ pages) whole many =
-    (whole m, filled-sized content size (m + 1) k others pages whole (omega (arith, many)))
+filled-sized : (content : ℕ → Content) (size s m k : ℕ) (others : List Cell) (pages : List Page) → ((i : ℕ) → length (content i) ≡ size) → length pages ≡ k
+    → AllByRecursion (λ (p : Page). length p.bytes ≡ size) (pages_filled s k (mapped_run content m k ++ others) pages)
+filled-sized content size s m zero others [] whole many = tt
+filled-sized content size s m zero others (p ∷ pages) whole many = absurd (omega (arith, many))
+filled-sized content size s m (suc k) others [] whole many = absurd (omega (arith, many))
+filled-sized content size s m (suc k) others (p ∷ pages) whole many =
+    (whole m, filled-sized content size s (m + 1) k others pages whole (omega (arith, many)))
 
 -- the run goes on over all of these blocks
 run_from-mapped : (content : ℕ → Content) (m i k : ℕ) (others : List Cell) → run_from (Mapped m) i (mapped_run content (m + i) k ++ others) k ≡ k
@@ -169,25 +174,81 @@ run_length-mapped content m (suc k) others some =
     ap (λ (t : Bool). if t then suc (run_from (Mapped m) 1 (mapped_run content (m + 1) k ++ others) k) else 0) own
     ∙ ap suc (run_from-mapped content m 1 k others)
 
-begins-mapped : (content : ℕ → Content) (m k : ℕ) (others : List Cell) → 1 ≤ k → begins_mapped (mapped_run content m k ++ others) ≡ true
-begins-mapped content m zero others some = absurd (omega (arith, some))
-begins-mapped content m (suc k) others some = refl
+-- all of them are at home and not dirty
+clean-mapped : (content : ℕ → Content) (m k : ℕ) (others : List Cell) → prefix_len is_clean_home (take k (mapped_run content m k ++ others)) ≡ k
+clean-mapped content m zero others = refl
+clean-mapped content m (suc k) others =
+    let z : 1 + k ≡ suc k = omega arith in
+    ap (λ n. 1 + n) (clean-mapped content (m + 1) k others) ∙ z
+
+-- so all of them are read
+now_length-mapped : (content : ℕ → Content) (m k : ℕ) (others : List Cell) → 0 < k → now_length (mapped_run content m k ++ others) k ≡ k
+now_length-mapped content m k others some =
+    ap (λ n. prefix_len is_clean_home (take n (mapped_run content m k ++ others))) (run_length-mapped content m k others some) ∙ clean-mapped content m k others
+
+-- and none of them hinders
+unhindered : (content : ℕ → Content) (b m k : ℕ) (others : List Cell) → 1 ≤ k
+    → (first_that_stops away b (take 1 (mapped_run content m k ++ others)) orElse first_that_stops dirty b (take 1 (mapped_run content m k ++ others))) ≡ None
+unhindered content b m zero others some = absurd (omega (arith, some))
+unhindered content b m (suc k) others some = refl
+
+pub not_refused : (script : Script) (job : Job) (r : RangeView) → IsJobOf script job → IsOpened script job r → direct_now_refusal r (block_of job) ≡ None
+not_refused script job r of opened =
+    let h = here script job r of opened in
+    let b = block_of job in
+    ap (λ cells. first_that_stops away b (take 1 cells) orElse first_that_stops dirty b (take 1 cells)) h.begin.is
+    ∙ unhindered (device_bytes script) b h.number (count_of job) h.begin.others (is_at job of.shape).many
 
 -- the run can be read at once, with as many pages of a block's length
-pub can_read : (script : Script) (job : Job) → IsJobOf script job
-    → CanReadNow (opened_range script job) (block_of job) (replicate (count_of job) (blank job.device.block_size))
-can_read script job of =
-    let h = here script job of in
+pub can_read : (script : Script) (job : Job) (r : RangeView) → IsJobOf script job → IsOpened script job r
+    → CanReadNow r (block_of job) (replicate (count_of job) (blank job.device.block_size))
+can_read script job r of opened =
     let k = count_of job in
+    let b = block_of job in
     let at = is_at job of.shape in
+    let low = at.low in
+    let high = at.high in
+    let inside = at.inside in
+    let some = at.many in
     let many = length-replicate k (blank job.device.block_size) in
-    record {
+    let C : RangeView → Type 0 = λ v. CanReadNow v b (replicate k (blank job.device.block_size)) in
+    let blocks : length (opened_range script job r.seat r.space).cells ≡ job.blocks =
+    length-cells_of (kinds_from (job.extent ∷ []) 0 job.blocks) (blocks_with (device_bytes script) (first_number job.extent.kind) job.extent.length) ∙ length-kinds_from (job.extent ∷ []) 0 job.blocks in
+    subst C (sym opened)
+    (record {
       cached = refl;
-      low = omega arith;
-      mapped = ap begins_mapped h.begin.is ∙ begins-mapped (device_bytes script) h.number k h.begin.others at.many;
-      some = omega (arith, many, at.many);
+      here = record { low = omega arith; some = omega arith; high = omega arith };
+      some = omega arith;
       whole = All-replicate (λ (p : Page). length p.bytes ≡ job.geometry.block_size) k (blank job.device.block_size) (length-replicate _ _ ∙ sym of.shape.size);
-    }
+    })
+
+-- blocks without pages lose none
+bare_run : (low n : ℕ) (cells : List Cell) → All IsCold cells → on_run without_mapped_page low n cells ≡ cells
+bare_run low n cells all = each 0 low n cells all
+  where
+    same : (c : Cell) → IsCold c → without_mapped_page c ≡ c
+    same c cold = at (is_mapped c.kind)
+      where
+        at : (t : Bool) → (if t then record c { page = None } else c) ≡ c
+        at true = ap (λ p. record c { page = p }) (sym cold.page)
+        at false = refl
+
+    each : (k low n : ℕ) (cells : List Cell) → All IsCold cells → on_each (λ _. without_mapped_page) k low n cells ≡ cells
+    each k zero zero cells all = refl
+    each k zero (suc n) [] all = refl
+    each k zero (suc n) (c ∷ cells) all =
+        ap (λ x. x ∷ on_each (λ _. without_mapped_page) (suc k) zero n cells) (same c (all 0 c (omega arith))) ∙ ap (λ l. c ∷ l) (each (suc k) zero n cells (All-tail IsCold c cells all))
+    each k (suc low) n [] all = refl
+    each k (suc low) n (c ∷ cells) all = ap (λ l. c ∷ l) (each k low n cells (All-tail IsCold c cells all))
+
+-- the read leaves the stamps alone, where the range was just opened
+left_stamps : (script : Script) (job : Job) (r : RangeView) (b n : ℕ) → IsOpened script job r → after_direct_now r (record { caller = 0; call = 1 }) b n ≡ with_stamps r (stamps_from b n read_stamp)
+left_stamps script job r b n opened =
+    let L : RangeView → Type 0 = λ v. after_direct_now v (record { caller = 0; call = 1 }) b n ≡ with_stamps v (stamps_from b n read_stamp) in
+    let v : RangeView = opened_range script job r.seat r.space in
+    subst L (sym opened)
+    (ap (λ cells. record (with_stamps v (stamps_from b n read_stamp)) { cells = cells })
+    (bare_run (b - 0) n v.cells (all_cold (kinds_from (job.extent ∷ []) 0 job.blocks) (blocks_with (device_bytes script) (first_number job.extent.kind) job.extent.length))))
 
 -- where in its first block the range begins
 pub place_is : (job : Job) → job.geometry.block_size ≡ job.device.block_size
@@ -195,46 +256,43 @@ pub place_is : (job : Job) → job.geometry.block_size ≡ job.device.block_size
 place_is job size = mod-eq-sub-div-mul job.asked.off job.device.block_size ∙ ap (λ s. job.asked.off - block_of job * s) (sym size)
 
 -- what one event read, and what it left
-pub record WasReadNow (script : Script) (job : Job) (pages : List Page) (new : RangeView) : Type 0 where
+pub record WasReadNow (script : Script) (job : Job) (pages : List Page) (old new : RangeView) : Type 0 where
   pub bytes_are : bytes_of pages ≡ joined_from (opening_content script 0) (block_of job) (count_of job)
   pub sized : All (λ p. length p.bytes ≡ job.geometry.block_size) pages
-  pub left : new ≡ with_stamps (opened_range script job) (stamps_from (block_of job) (count_of job) read_stamp)
-
--- the bytes of every device block of a job's script are as many as a block has
-length-device : (script : Script) (job : Job) → IsJobOf script job → (i : ℕ) → length (device_bytes script i) ≡ job.geometry.block_size
-length-device script job of i = ap (λ (s : Script). length (device_bytes s i)) of.is ∙ length-device_bytes of.name job script.blocks i of.shape of.whole
+  pub left : new ≡ with_stamps old (stamps_from (block_of job) (count_of job) read_stamp)
 
 pub was_read : (script : Script) (job : Job) (before pages : List Page) (n : ℕ) (old new : RangeView) → IsJobOf script job
-    → old ≡ opened_range script job → length before ≡ count_of job
-    → n ≡ run_length (cells_from old (block_of job)) (length before) → pages ≡ pages_filled n (cells_from old (block_of job)) before
-    → new ≡ with_stamps old (stamps_from (block_of job) n read_stamp) → WasReadNow script job pages new
+    → IsOpened script job old → length before ≡ count_of job
+    → n ≡ now_count old (block_of job) before → pages ≡ pages_filled old.geometry.block_size n (cells_from old (block_of job)) before
+    → new ≡ after_direct_now old (record { caller = 0; call = 1 }) (block_of job) n → WasReadNow script job pages old new
 was_read script job before pages n old new of opened many run read left =
-    let h = here script job of in
+    let h = here script job old of opened in
     let b = block_of job in
     let k = count_of job in
     let at = is_at job of.shape in
+    let size = old.geometry.block_size in
     let content : ℕ → Content = device_bytes script in
-    let cells : cells_from old b ≡ mapped_run content h.number k ++ h.begin.others = ap (λ r. cells_from r b) opened ∙ h.begin.is in
-    let all : n ≡ k = run ∙ ap (run_length (cells_from old b)) many ∙ ap (λ cs. run_length cs k) cells
-    ∙ run_length-mapped content h.number k h.begin.others at.many in
-    let pages_are : pages ≡ pages_filled k (mapped_run content h.number k ++ h.begin.others) before =
-    read ∙ ap (λ i. pages_filled i (cells_from old b) before) all ∙ ap (λ cs. pages_filled k cs before) cells in
+    let cells : cells_from old b ≡ mapped_run content h.number k ++ h.begin.others = h.begin.is in
+    let all : n ≡ k = run ∙ ap (now_length (cells_from old b)) many ∙ ap (λ cs. now_length cs k) cells
+    ∙ now_length-mapped content h.number k h.begin.others at.many in
+    let pages_are : pages ≡ pages_filled size k (mapped_run content h.number k ++ h.begin.others) before =
+    read ∙ ap (λ i. pages_filled size i (cells_from old b) before) all ∙ ap (λ cs. pages_filled size k cs before) cells in
     let S : List Page → Type 0 = λ ps. All (λ (p : Page). length p.bytes ≡ job.geometry.block_size) ps in
     record {
-      bytes_are = ap bytes_of pages_are ∙ filled-bytes content h.number k h.begin.others before many ∙ sym h.bytes;
+      bytes_are = ap bytes_of pages_are ∙ filled-bytes content size h.number k h.begin.others before many ∙ sym h.bytes;
       sized = subst S (sym pages_are) (All-from_recursion (λ (p : Page). length p.bytes ≡ job.geometry.block_size) _
-          (filled-sized content job.geometry.block_size h.number k h.begin.others before (length-device script job of) many));
-      left = left ∙ ap (λ i. with_stamps old (stamps_from b i read_stamp)) all ∙ ap (λ r. with_stamps r (stamps_from b k read_stamp)) opened;
+          (filled-sized content job.geometry.block_size size h.number k h.begin.others before (length-device script job of) many));
+      left = left ∙ left_stamps script job old b n opened ∙ ap (λ i. with_stamps old (stamps_from b i read_stamp)) all;
     }
 
-pub gave : (script : Script) (job : Job) (pages : List Page) (end : CallEnd) (new : RangeView) → IsJobOf script job → WasReadNow script job pages new
+pub gave : (script : Script) (job : Job) (pages : List Page) (end : CallEnd) (old new : RangeView) → IsJobOf script job → WasReadNow script job pages old new
     → IsWholeEnd end job.asked.length (take job.asked.length (drop (job.asked.off % job.device.block_size) (bytes_of pages)))
-    → IsOutcome script job end (opened_range script job) new
-gave script job pages end new of read end_is =
+    → IsOutcome script job end old new
+gave script job pages end old new of read end_is =
     let b = block_of job in
     let n = job.asked.length in
     let opening = joined_from (opening_content script 0) b (count_of job) in
-    let whole : GaveRange script job end (opened_range script job) new = record {
+    let whole : GaveRange script job end old new = record {
       reply = end_is.reply;
       bios = end_is.bios;
       many = end_is.many;
@@ -243,13 +301,13 @@ gave script job pages end new of read end_is =
       pages = end_is.pages;
       left = read.left;
     } in
-    let P : Bool → Type 0 = λ t. MatchBool t (GaveNothing end (opened_range script job) new) (GaveRange script job end (opened_range script job) new) in
+    let P : Bool → Type 0 = λ t. MatchBool t (GaveNothing end old new) (GaveRange script job end old new) in
     subst P (sym (ap is_error end_is.reply)) whole
 
 -- the pages have as many bytes as the range reaches
-pub reaches : (script : Script) (job : Job) (pages : List Page) (new : RangeView) → IsJobOf script job → WasReadNow script job pages new
+pub reaches : (script : Script) (job : Job) (pages : List Page) (old new : RangeView) → IsJobOf script job → WasReadNow script job pages old new
     → job.asked.off % job.device.block_size + job.asked.length ≤ length (bytes_of pages)
-reaches script job pages new of read =
+reaches script job pages old new of read =
     let b = block_of job in
     let k = count_of job in
     let size = job.geometry.block_size in
@@ -262,9 +320,9 @@ reaches script job pages new of read =
     omega (arith, many, place, far, at.lies.low, at.lies.high)
 
 -- the range begins in the first page
-pub begins_in : (script : Script) (job : Job) (pages : List Page) (new : RangeView) → IsJobOf script job → WasReadNow script job pages new
+pub begins_in : (script : Script) (job : Job) (pages : List Page) (old new : RangeView) → IsJobOf script job → WasReadNow script job pages old new
     → All (λ (p : Page). job.asked.off % job.device.block_size ≤ length p.bytes) pages
-begins_in script job pages new of read =
+begins_in script job pages old new of read =
     let P : Page → Type 0 = λ p. length p.bytes ≡ job.geometry.block_size in
     let Q : Page → Type 0 = λ p. job.asked.off % job.device.block_size ≤ length p.bytes in
     let turn : (p : Page) → P p → Q p = λ p is. within p is in

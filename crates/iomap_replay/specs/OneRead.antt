@@ -18,7 +18,10 @@ use Rattle.iomap_replay.specs.Runs.{read_stamp}
 use Rattle.iomap_replay.specs.declared.job.Job.{Job}
 use Rattle.range_core.specs.Events.{with_stamps}
 use Rattle.range_core.specs.RangeView.{RangeView, range_of}
+use Rattle.range_core.specs.Space.{SpaceClaims}
 use Rattle.range_core.specs.Stamps.{stamps_from}
+use Rattle.space_pool.specs.declared.entry.PoolEntry.{PoolEntry}
+use Rattle.turn_cell.specs.Views.{SeatView}
 
 -- the block in which the range of the call begins, and how many blocks it meets
 abbrev pub block_of : Job → ℕ
@@ -40,10 +43,14 @@ blank size = record { number = 0; bytes = replicate size 0 }
 abbrev pub bytes_of : List Page → List ℕ
 bytes_of pages = concat (map (λ p. p.bytes) pages)
 
--- the range of the one file before the call
-abbrev pub opened_range : Script → Job → RangeView
-opened_range script job =
-    range_of job.geometry Cached 0 job.blocks (job.extent ∷ []) (blocks_with (device_bytes script) (first_number job.extent.kind) job.extent.length) 0
+-- the range of the one file before the call, with this seat at the pool and what it claims
+abbrev pub opened_range : Script → Job → SeatView PoolEntry → SpaceClaims → RangeView
+opened_range script job seat space =
+    range_of job.geometry Cached 0 job.blocks (job.extent ∷ []) (blocks_with (device_bytes script) (first_number job.extent.kind) job.extent.length) seat space 0
+
+-- a range is that of the one file before the call
+abbrev pub IsOpened : Script → Job → RangeView → Type 0
+IsOpened script job r = r ≡ opened_range script job r.seat r.space
 
 -- how many bios a call sent that failed so
 abbrev pub bios_of : Fault → ℕ

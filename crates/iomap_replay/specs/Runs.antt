@@ -11,7 +11,6 @@ use Rattle.io_model.specs.declared.file.FileEnd.{FileEnd}
 use Rattle.io_model.specs.declared.run.CallEnd.{CallEnd}
 use Rattle.io_model.specs.declared.run.LaneEnd.{LaneEnd}
 use Rattle.io_model.specs.declared.run.Run.{Run}
-use Rattle.range_core.specs.declared.end.RangeEnd.{RangeEnd}
 
 -- a close that had nothing to do
 abbrev pub quiet_close : Answer
@@ -42,7 +41,3 @@ is_among first n b = nat_le first b && nat_lt b (first + n)
 -- the end of a block that was only read: its sector as it was, and stamps where it was read
 abbrev pub read_end : (ℕ → Content) → (ℕ → Option ℕ) → (ℕ → Bool) → List Stamp → ℕ → BlockEnd
 read_end content mapped read stamps b = record { sector = sector_with content (mapped b); dirty = None; journal = if read b then stamps else [] }
-
--- the end of a file that is one range
-abbrev pub file_of_range : RangeEnd → FileEnd
-file_of_range e = record { extents = e.extents; blocks = e.blocks }

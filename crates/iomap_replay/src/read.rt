@@ -4,7 +4,7 @@ ghost use Rattle.io_model.specs.Fitting.{is_again};
 ghost use Rattle.iob_base.specs.declared.answer.Reply.TheVariants.{Err as Failed};
 ghost use Rattle.iomap_replay.specs.Causes.{IsCausedReply};
 ghost use Rattle.iomap_replay.specs.Jobs.{IsJobOf};
-ghost use Rattle.iomap_replay.specs.OneRead.{blank, bytes_of, opened_range, IsOutcome, IsWholeEnd};
+ghost use Rattle.iomap_replay.specs.OneRead.{blank, bytes_of, IsOpened, IsOutcome, IsWholeEnd};
 ghost use Rattle.fault_device.specs.LaneView.{lane_seen};
 ghost use Rattle.fault_device.specs.Opening.{Opening, Serves};
 
@@ -105,7 +105,7 @@ pub fn read_once(
     lane: &mut Lane,
 ) -> Result<CallEnd, AllocError>
     requires job { IsJobOf script.now job.now }
-    requires opened { range.old ≡ opened_range script.now job.now }
+    requires opened { IsOpened script.now job.now range.old }
     ensures outcome { IfOk result (λ end. IsOutcome script.now job.now end range.old range.new) }
     ensures caused { (o : Opening) → Serves o (lane_seen count tells lane.old)
         → IfOk result (λ end. IsCausedReply o (lane_seen count tells lane.old).number end.answer.reply) }

@@ -1,16 +1,18 @@
 //! The run of a script of one read.
 ghost use Rattle.std.specs.Prelude.{◌≡◌, List, [], ◌∷◌, IfOk, length, slice_get};
 ghost use Rattle.std.specs.List.{list_any};
+ghost use Rattle.io_model.specs.Contents.{device_bytes};
 ghost use Rattle.io_model.specs.Right.{RunIsRight};
 ghost use Rattle.io_model.specs.RunText.{has_error, is_error};
 ghost use Rattle.iomap_replay.specs.Causes.{AreCaused};
+ghost use Rattle.iomap_replay.specs.Devices.{SameNumbers, blocks_beside, first_number};
 ghost use Rattle.iomap_replay.specs.Jobs.{IsJobOf};
-ghost use Rattle.iomap_replay.specs.Runs.{quiet_close as quiet_close_answer, one_run, file_of_range};
+ghost use Rattle.iomap_replay.specs.Runs.{quiet_close as quiet_close_answer, one_run};
 ghost use Rattle.fault_device.specs.LaneView.{lane_seen};
 ghost use Rattle.fault_device.specs.Opening.{Opening, Serves};
 
 use crate::job::Job;
-use crate::range::{open_range, sectors_of};
+use crate::range::{open_range, sectors_of, start_pool};
 use crate::read::read_once;
 use fault_device::Lane;
 use io_model::{CallEnd, FileEnd, LaneEnd, Run, Script, Unmounted};
@@ -35,18 +37,17 @@ fn quiet_close() -> Answer
 fn assemble_run(
     alloc: Global,
     end: CallEnd,
-    range: RangeEnd,
+    file: FileEnd,
     free: Vec<Sector>,
     lanes: Vec<LaneEnd>,
 ) -> Result<Run, AllocError>
-    ensures { IfOk result (λ run. run ≡ one_run end (file_of_range range) free.items lanes.items) }
+    ensures { IfOk result (λ run. run ≡ one_run end file free.items lanes.items) }
 {
-    let RangeEnd { extents, blocks } = range;
     Ok(Run {
         calls: Items::from_vec(vec![in alloc; end]?),
         closes: Items::from_vec(vec![in alloc; quiet_close()]?),
         ends: Unmounted {
-            files: Items::from_vec(vec![in alloc; FileEnd { extents, blocks }]?),
+            files: Items::from_vec(vec![in alloc; file]?),
             free: Items::from_vec(free),
         },
         lanes: Items::from_vec(lanes),
@@ -65,13 +66,21 @@ pub fn run_script(
     requires job { IsJobOf script.now job.now }
     requires lanes { length others.items ≡ 16 }
     ensures right { IfOk result (RunIsRight script.now (0 ∷ [])) }
+    ensures free { IfOk result (λ run. SameNumbers run.ends.free (blocks_beside (device_bytes script.now) (first_number job.now.extent.kind) job.now.extent.length job.now.device.blocks)) }
     ensures caused { (openings : List Opening) (o : Opening) → slice_get openings 0 ≡ Some o → Serves o (lane_seen count tells lane.old)
         → (lane_seen count tells lane.old).number ≡ 0 → IfOk result (λ run. AreCaused openings script.now.calls run.calls) }
 {
     let (own, free) = sectors_of(alloc, script, job)?;
-    let mut range = open_range(alloc, script, job, own)?;
+    let (pool, seat) = start_pool(alloc, script, job, &own, free)?;
+    let mut range = open_range(alloc, script, job, own, seat)?;
     let end = read_once(alloc, script, job, &mut range, lane)?;
-    let range = range.end()?;
+    let ended = range.end()?;
+    let RangeEnd {
+        extents,
+        blocks,
+        seat,
+    } = ended;
+    let free = pool.close(seat);
     let mut lanes = others;
     lanes.insert(
         0,
@@ -80,7 +89,7 @@ pub fn run_script(
             faults: lane.faults(),
         },
     )?;
-    assemble_run(alloc, end, range, free, lanes)
+    assemble_run(alloc, end, FileEnd { extents, blocks }, free, lanes)
 }
 
 /// Whether a reply is an error.

@@ -23,10 +23,12 @@ use Rattle.range_core.specs.Lookups.{GivesPresent}
 use Rattle.range_core.specs.Quiet.{IsQuiet}
 use Rattle.range_core.specs.RangeTruth.{IsSameRun, IsUncached, RangeTruth, content_at, pending}
 use Rattle.range_core.specs.RangeView.{RangeView}
+use Rattle.range_core.specs.Space.{ClaimsSpace}
 use Rattle.range_core.specs.Stakes.{IsApart, RangeStake, held_by, mains, names, names_block, spares, workers}
 use Rattle.range_core.specs.declared.cell.Cell.{Cell}
 use Rattle.range_core.specs.declared.entry.Entry.{Entry}
 use Rattle.range_core.proofs.KindRuns.{keep_samples, kinds_of}
+use Rattle.range_core.proofs.SpaceLemmas.{space_by_kinds}
 use Rattle.range_core.proofs.StakeTruth.{SameClaims, true-restaked}
 
 -- what an entry makes of a range: each block's state, the counts, the cookie and the log
@@ -39,6 +41,7 @@ pub record IsNext (size first : ℕ) (now next : RangeView) (e : Entry) : Type 0
   pub log : next.log ≡ now.log ++ stamps_of size e
   pub headroom : max next.cookie WORN + total pending next.cells ≤ WORN + 65536
   pub uncached : next.mode ≡ Dax → All IsUncached next.cells
+  pub space : ClaimsSpace size next.cells next.space
 
 -- a seat goes on under its own number, with the numbers that it has spare
 pub record GoesOn (claims left : ClaimsView) : Type 0 where
@@ -123,7 +126,10 @@ module _ (opening now next : RangeView) (history : List Entry) (e : Entry) (stak
           mode = n.same_run.mode ∙ t.same_run.mode;
           first = n.same_run.first ∙ t.same_run.first;
           blocks = n.same_run.blocks ∙ t.same_run.blocks;
+          pool = n.same_run.pool ∙ t.same_run.pool;
         };
+        few = t.few;
+        pool_claims_sectors = n.space;
         blocks = λ i c at.
             let b = opening.first + i in
             let more : content_at opening (history ++ e ∷ []) i ≡ content_after size b (content_at opening history i) e =
@@ -151,7 +157,7 @@ module _ (opening now next : RangeView) (history : List Entry) (e : Entry) (stak
       }
 
 -- no ticket was given
-quiet_tickets : (opening now : RangeView) (history : List Entry) (e : Entry) (stakes : List RangeStake) → RangeTruth opening now history stakes → lendings e ≡ 0 → now.tickets ≡ (now.tickets + lendings e) % (2 ^ 64)
+pub quiet_tickets : (opening now : RangeView) (history : List Entry) (e : Entry) (stakes : List RangeStake) → RangeTruth opening now history stakes → lendings e ≡ 0 → now.tickets ≡ (now.tickets + lendings e) % (2 ^ 64)
 quiet_tickets opening now history e stakes t none =
     let z : now.tickets + lendings e ≡ now.tickets + 0 = ap (λ n. now.tickets + n) none in
     let k : now.tickets ≡ (opening.tickets + total lendings history) % (2 ^ 64) = t.tickets_counted in
@@ -165,7 +171,8 @@ quiet_truth opening now history e stakes number claims made t here q gives by =
     λ i was c there at. let both : Some was ≡ Some c = sym there ∙ at in cc in
     after_entry opening now now history e stakes number claims claims made t here
     (record {
-      same_run = record { geometry = refl; mode = refl; first = refl; blocks = refl };
+      same_run = record { geometry = refl; mode = refl; first = refl; blocks = refl; pool = refl };
+      space = t.pool_claims_sectors;
       states = λ i was c there at. ap state_of (same i was c there at) ∙ sym (q.state (opening.first + i) (state_of was));
       errors = let f = q.failed in let p = t.errors_counted in omega arith;
       tickets = quiet_tickets opening now history e stakes t q.lent;
@@ -194,7 +201,8 @@ pub paged_truth : (opening now : RangeView) (cells : List Cell) (history : List 
 paged_truth opening now cells history e stakes number claims made t here q gives by many kinds pends uncached states blocks =
     after_entry opening now (record now { cells = cells }) history e stakes number claims claims made t here
     (record {
-      same_run = record { geometry = refl; mode = refl; first = refl; blocks = many };
+      same_run = record { geometry = refl; mode = refl; first = refl; blocks = many; pool = refl };
+      space = space_by_kinds opening.geometry.block_size now.cells cells now.space kinds t.pool_claims_sectors;
       states = λ i was c there at. states i was c there at ∙ sym (q.state (opening.first + i) (state_of was));
       errors = let f = q.failed in let p = t.errors_counted in omega arith;
       tickets = quiet_tickets opening now history e stakes t q.lent;

@@ -5,7 +5,7 @@ use Rattle.io_model.specs.declared.file.Extent.{Extent}
 use Rattle.io_model.specs.declared.file.Kind.{Kind}
 use Rattle.io_model.specs.declared.file.Kind.TheVariants.{Hole, Delalloc, Unwritten, Mapped}
 use Rattle.std.proofs.lemmas.List.Elements.{All-cons, All-nil, All-tail}
-use Rattle.range_core.specs.Cells.{IsHome, cell_of, cells_of, sectors_after}
+use Rattle.range_core.specs.Cells.{IsPlaced, cell_of, cells_of, sectors_after}
 use Rattle.range_core.specs.Kinds.{kinds_from, numbers_of}
 use Rattle.range_core.specs.declared.cell.Cell.{Cell}
 
@@ -27,21 +27,21 @@ cells_of-next extents first i n sectors rest all cells new kind h e k p r =
     glue all cells new _ _ _ e here p
 
 -- blocks with the sectors of their kinds are at home
-pub cells_of-home : (size : ℕ) (kinds : List Kind) (sectors : List DeviceBlock) → map (λ s. s.number) sectors ≡ numbers_of kinds → All (λ s. length s.bytes ≡ size) sectors → All (IsHome size) (cells_of kinds sectors)
-cells_of-home size [] sectors e w = All-nil (IsHome size)
-cells_of-home size (Hole ∷ kinds) sectors e w = All-cons (IsHome size) _ _ refl (cells_of-home size kinds sectors e w)
-cells_of-home size (Delalloc ∷ kinds) sectors e w = All-cons (IsHome size) _ _ refl (cells_of-home size kinds sectors e w)
+pub cells_of-home : (size : ℕ) (kinds : List Kind) (sectors : List DeviceBlock) → map (λ s. s.number) sectors ≡ numbers_of kinds → All (λ s. length s.bytes ≡ size) sectors → All (IsPlaced size) (cells_of kinds sectors)
+cells_of-home size [] sectors e w = All-nil (IsPlaced size)
+cells_of-home size (Hole ∷ kinds) sectors e w = All-cons (IsPlaced size) _ _ refl (cells_of-home size kinds sectors e w)
+cells_of-home size (Delalloc ∷ kinds) sectors e w = All-cons (IsPlaced size) _ _ refl (cells_of-home size kinds sectors e w)
 cells_of-home size (Unwritten d ∷ kinds) [] e w = absurd (cc)
 cells_of-home size (Unwritten d ∷ kinds) (s ∷ sectors) e w =
     let is : s.number ≡ d = cc in
     let others : map (λ s. s.number) sectors ≡ numbers_of kinds = cc in
-    All-cons (IsHome size) _ _ (record { is = is; whole = w 0 s (omega arith) })
+    All-cons (IsPlaced size) _ _ (record { is = is; whole = w 0 s (omega arith) })
     (cells_of-home size kinds sectors others (λ k x h. w (suc k) x (omega arith)))
 cells_of-home size (Mapped d ∷ kinds) [] e w = absurd (cc)
 cells_of-home size (Mapped d ∷ kinds) (s ∷ sectors) e w =
     let is : s.number ≡ d = cc in
     let others : map (λ s. s.number) sectors ≡ numbers_of kinds = cc in
-    All-cons (IsHome size) _ _ (record { is = is; whole = w 0 s (omega arith) })
+    All-cons (IsPlaced size) _ _ (record { is = is; whole = w 0 s (omega arith) })
     (cells_of-home size kinds sectors others (λ k x h. w (suc k) x (omega arith)))
 
 -- so many kinds, and as many blocks
@@ -53,9 +53,9 @@ pub length-cells_of : (kinds : List Kind) (sectors : List DeviceBlock) → lengt
 length-cells_of [] sectors = refl
 length-cells_of (kind ∷ kinds) sectors = ap suc (length-cells_of kinds (sectors_after kind sectors))
 
-pub homes_of : (size : ℕ) (kinds : List Kind) (sectors : List DeviceBlock) (cells : List Cell) → cells ≡ cells_of kinds sectors → map (λ s. s.number) sectors ≡ numbers_of kinds → All (λ s. length s.bytes ≡ size) sectors → All (IsHome size) cells
+pub homes_of : (size : ℕ) (kinds : List Kind) (sectors : List DeviceBlock) (cells : List Cell) → cells ≡ cells_of kinds sectors → map (λ s. s.number) sectors ≡ numbers_of kinds → All (λ s. length s.bytes ≡ size) sectors → All (IsPlaced size) cells
 homes_of size kinds sectors cells are e w =
-    let P : List Cell → Type 0 = λ xs. All (IsHome size) xs in subst P (sym are) (cells_of-home size kinds sectors e w)
+    let P : List Cell → Type 0 = λ xs. All (IsPlaced size) xs in subst P (sym are) (cells_of-home size kinds sectors e w)
 
 -- what holds of every sector holds of those that the blocks have
 pub cells_of-hold : (P : DeviceBlock → Type 0) (kinds : List Kind) (sectors : List DeviceBlock) → All P sectors → All (λ c. IfSome c.sector P) (cells_of kinds sectors)

@@ -1,5 +1,5 @@
 -- The range truth of a range before the first entry.
-use Rattle.std.proofs.Common.{◌≡◌, ℕ, zero, suc, ◌+◌, ◌-◌, ◌<◌, ◌≤◌, ◌^◌, Bool, true, false, nat_eq, nat_le, if◌then◌else◌, Option, Some, None, IsTrue, IsSome, IfSome, List, [], ◌∷◌, length, All, refl, sym, ◌∙◌, ap, subst, arith}
+use Rattle.std.proofs.Common.{◌≡◌, ℕ, zero, suc, ◌+◌, ◌-◌, ◌<◌, ◌≤◌, ◌^◌, Bool, true, false, nat_eq, nat_le, if◌then◌else◌, Option, Some, None, IsTrue, IsSome, IfSome, List, [], ◌∷◌, length, map, All, refl, sym, ◌∙◌, ap, subst, arith}
 use Rattle.std.specs.Prelude.{is_some, slice_get}
 use Rattle.std.proofs.lemmas.Bool.{eqb-true, leb-true}
 use Rattle.std.proofs.lemmas.List.{length-replicate}
@@ -19,12 +19,15 @@ use Rattle.io_model.specs.declared.file.Kind.TheVariants.{Hole, Delalloc, Unwrit
 use Rattle.turn_cell.specs.Stakes.{total}
 use Rattle.range_core.specs.BlockContents.{opening_bytes}
 use Rattle.range_core.specs.BlockStates.{state_of}
-use Rattle.range_core.specs.BlockTruth.{IsTrueAt, HasPlace, HomeContent, gone}
-use Rattle.range_core.specs.Cells.{HasSector, IsHome, cell_of, cells_of, sectors_after}
+use Rattle.range_core.specs.BlockTruth.{IsTrueAt, HomeContent, gone, is_gone}
+use Rattle.range_core.specs.Cells.{HasPlace, HasSector, IsPlaced, cell_of, cells_of, sectors_after}
 use Rattle.range_core.specs.ClaimsView.{first_claims}
 use Rattle.range_core.specs.EntryCounts.{one_where}
-use Rattle.range_core.specs.Kinds.{has_space, is_delalloc, kinds_from}
+use Rattle.range_core.specs.Kinds.{has_space, is_delalloc, kinds_from, numbers_of}
 use Rattle.range_core.specs.Opening.{CanOpen}
+use Rattle.range_core.specs.Space.{ClaimsSpace, SpaceClaims, number_weight, promised}
+use Rattle.space_pool.specs.declared.entry.PoolEntry.{PoolEntry}
+use Rattle.turn_cell.specs.Views.{SeatView}
 use Rattle.range_core.specs.RangeTruth.{RangeTruth, pending}
 use Rattle.range_core.specs.RangeView.{range_of}
 use Rattle.range_core.specs.Stakes.{RangeStake, IsApart, names}
@@ -93,14 +96,14 @@ no_name b zero s at more =
 no_name b (suc n) s at more = some-ne-none s (sym at)
 
 -- a block at home, clean and without a page is true of its content at the opening
-cold_is_true : (size b : ℕ) (c : Cell) → IsCold c → IsHome size c → IsTrueAt size b c (opening_bytes size (Some c)) ((Some first_claims, []) ∷ [])
+cold_is_true : (size b : ℕ) (c : Cell) → IsCold c → IsPlaced size c → IsTrueAt size b c (opening_bytes size (Some c)) ((Some first_claims, []) ∷ [])
 cold_is_true size b c cold home =
     let content : Content = opening_bytes size (Some c) in
     let away : Option Away → Type 0 = λ a. HomeContent size c content a in
     let page : Option Page → Type 0 = λ p. IfSome p (λ q. q.bytes ≡ content) in
     record {
-      whole = content_whole size c.kind c.sector home;
-      place = let P : Option Away → Type 0 = λ a. HasPlace size c.kind c.sector a in subst P (sym cold.away) home;
+      whole = content_whole size c.kind c.sector (let P : Option Away → Type 0 = λ a. HasPlace size c.kind c.sector a in subst P cold.away home);
+      place = home;
       uptodate_is_replay = subst page (sym cold.page) tt;
       home_is_on_device = subst away (sym cold.away) (record {
         clean_is_on_device = λ m d. sector_content size (mapped_number c.kind) c.sector m;
@@ -113,7 +116,8 @@ cold_is_true size b c cold home =
       };
     }
 
-weighs_one : (t : Bool) → one_where t ≤ 1
+-- what is one or nothing is at most one
+pub weighs_one : (t : Bool) → one_where t ≤ 1
 weighs_one true = omega arith
 weighs_one false = omega arith
 
@@ -140,15 +144,52 @@ first_apart caller h = at (nat_le 4294967296 (caller + 4294967295)) (nat_eq 0 ca
         weighs_less true e = rw e (omega arith)
         weighs_less false e = rw e (omega arith)
 
+-- the blocks weigh what the numbers of their kinds weigh
+numbers-cells_of : (f : ℕ → ℕ) (kinds : List Kind) (sectors : List DeviceBlock) → total (number_weight f) (cells_of kinds sectors) ≡ total f (numbers_of kinds)
+numbers-cells_of f [] sectors = refl
+numbers-cells_of f (Hole ∷ kinds) sectors = let rest = numbers-cells_of f kinds sectors in omega arith
+numbers-cells_of f (Delalloc ∷ kinds) sectors = let rest = numbers-cells_of f kinds sectors in omega arith
+numbers-cells_of f (Unwritten d ∷ kinds) sectors = ap (λ n. f d + n) (numbers-cells_of f kinds (sectors_after (Unwritten d) sectors))
+numbers-cells_of f (Mapped d ∷ kinds) sectors = ap (λ n. f d + n) (numbers-cells_of f kinds (sectors_after (Mapped d) sectors))
+
+numbers-map : (f : ℕ → ℕ) (sectors : List DeviceBlock) → total (λ (s : DeviceBlock). f s.number) sectors ≡ total f (map (λ s. s.number) sectors)
+numbers-map f [] = refl
+numbers-map f (s ∷ sectors) = ap (λ n. f s.number + n) (numbers-map f sectors)
+
+-- where no item weighs anything, all weigh nothing
+pub total-zero : {A : Type 0} (f : A → ℕ) (xs : List A) → All (λ x. f x ≡ 0) xs → total f xs ≡ 0
+total-zero f [] h = refl
+total-zero f (x ∷ xs) h = let z = h 0 x (omega arith) in let r = total-zero f xs (λ k d l. h (suc k) d (omega arith)) in omega arith
+
+-- a seat that claims the sectors of the extents claims the space of the blocks
+pub first_space : (size first blocks : ℕ) (extents : List Extent) (sectors : List DeviceBlock) (space : SpaceClaims) (cookie : ℕ) → CanOpen size first blocks extents sectors space cookie
+    → ClaimsSpace size (cells_of (kinds_from extents first blocks) sectors) space
+first_space size first blocks extents sectors space cookie can =
+    let kinds : List Kind = kinds_from extents first blocks in
+    let placed : All (λ (c : Cell). is_delalloc c.kind ≡ false) (cells_of kinds sectors) =
+    all_placed extents first blocks sectors (λ k d l. (can.inside k d l).placed) in
+    record {
+      numbers = λ f. can.space_is.numbers f ∙ numbers-map f sectors ∙ ap (total f) can.sectors_are ∙ sym (numbers-cells_of f kinds sectors);
+      distinct = can.space_is.distinct;
+      reserved = can.space_is.reserved ∙ sym (total-zero promised (cells_of kinds sectors) (λ k d l. ap one_where (placed k d l)));
+      cap = can.space_is.cap ∙ sym (length-cells_of kinds sectors ∙ length-kinds_from extents first blocks);
+      sized = can.space_is.sized;
+    }
+
+-- none of these blocks is away
+pub none_gone : (kinds : List Kind) (sectors : List DeviceBlock) → total is_gone (cells_of kinds sectors) ≡ 0
+none_gone kinds sectors = total-zero is_gone (cells_of kinds sectors) (λ k d l. ap gone (all_cold kinds sectors k d l).away)
+
 -- what a range is opened as meets the truth, with an empty history and the claims of the first seat
-pub first_truth : (geometry : Layout) (mode : Mode) (first blocks : ℕ) (extents : List Extent) (sectors : List DeviceBlock) (cookie : ℕ) → CanOpen geometry.block_size first blocks extents sectors cookie
-    → RangeTruth (range_of geometry mode first blocks extents sectors cookie) (range_of geometry mode first blocks extents sectors cookie) [] ((Some first_claims, []) ∷ [])
-first_truth geometry mode first blocks extents sectors cookie can =
+pub first_truth : (geometry : Layout) (mode : Mode) (first blocks : ℕ) (extents : List Extent) (sectors : List DeviceBlock) (seat : SeatView PoolEntry) (space : SpaceClaims) (cookie : ℕ)
+    → CanOpen geometry.block_size first blocks extents sectors space cookie
+    → RangeTruth (range_of geometry mode first blocks extents sectors seat space cookie) (range_of geometry mode first blocks extents sectors seat space cookie) [] ((Some first_claims, []) ∷ [])
+first_truth geometry mode first blocks extents sectors seat space cookie can =
     let size : ℕ = geometry.block_size in
     let kinds : List Kind = kinds_from extents first blocks in
     let cells : List Cell = cells_of kinds sectors in
     let cold : All IsCold cells = all_cold kinds sectors in
-    let homes : All (IsHome size) cells = cells_of-home size kinds sectors can.sectors_are can.whole in
+    let homes : All (IsPlaced size) cells = cells_of-home size kinds sectors can.sectors_are can.whole in
     let placed : All (λ (c : Cell). is_delalloc c.kind ≡ false) cells =
     all_placed extents first blocks sectors (λ k d l. (can.inside k d l).placed) in
     let many : length cells ≡ blocks = length-cells_of kinds sectors ∙ length-kinds_from extents first blocks in
@@ -156,10 +197,12 @@ first_truth geometry mode first blocks extents sectors cookie can =
     let bound = can.few in
     let unworn = can.unworn in
     record {
-      same_run = record { geometry = refl; mode = refl; first = refl; blocks = refl };
+      same_run = record { geometry = refl; mode = refl; first = refl; blocks = refl; pool = refl };
+      few = omega arith;
+      pool_claims_sectors = first_space size first blocks extents sectors space cookie can;
       blocks = λ i c at.
           let T : Option Cell → Type 0 = λ o. IsTrueAt size (first + i) c (opening_bytes size o) ((Some first_claims, []) ∷ []) in
-          subst T (sym at) (cold_is_true size (first + i) c (All-there IsCold cells i c cold at) (All-there (IsHome size) cells i c homes at));
+          subst T (sym at) (cold_is_true size (first + i) c (All-there IsCold cells i c cold at) (All-there (IsPlaced size) cells i c homes at));
       states = λ i was c there here. let same : Some was ≡ Some c = sym there ∙ here in let is : c ≡ was = cc in ap state_of is;
       errors_counted = refl;
       tickets_counted = refl;

@@ -50,6 +50,8 @@ pub restaked : (opening now : RangeView) (history : List Entry) (stakes others :
     → ((caller : ℕ) → caller < 2 ^ 32 → IsApart caller history others) → RangeTruth opening now history others
 restaked opening now history stakes others t same apart = record {
   same_run = t.same_run;
+  few = t.few;
+  pool_claims_sectors = t.pool_claims_sectors;
   blocks = λ i c at. true-restaked _ _ c (content_at opening history i) stakes others same (t.blocks i c at);
   states = t.states;
   errors_counted = t.errors_counted;

@@ -2,16 +2,14 @@
 use Rattle.std.specs.Prelude.{◌≡◌, ◌≢◌, ℕ, ◌-◌, ◌<◌, Bool, true, false, Option, Some, None, IsTrue, IfSome, IsSomeAnd, List, length, slice_get}
 use mathlib.Core.Option.{some}
 use lib.ListN.{get_elem?}
-use Rattle.iob_base.specs.DeviceBlock.{DeviceBlock}
 use Rattle.iob_base.specs.declared.sector.Page.{Page}
 use Rattle.fault_device.specs.declared.part.Part.{Part}
 use Rattle.io_model.specs.Contents.{Content, zeros}
 use Rattle.io_model.specs.Kinds.{device_number, kind_after}
-use Rattle.io_model.specs.declared.file.Kind.{Kind}
 use Rattle.io_model.specs.declared.file.Kind.TheVariants.{Hole}
 use Rattle.turn_cell.specs.Stakes.{total}
-use Rattle.range_core.specs.Cells.{HasSector, IsBlock}
-use Rattle.range_core.specs.Kinds.{has_space, is_mapped}
+use Rattle.range_core.specs.Cells.{HasPlace, IsBlock}
+use Rattle.range_core.specs.Kinds.{is_mapped}
 use Rattle.range_core.specs.Stakes.{RangeStake, held_by, names}
 use Rattle.range_core.specs.declared.cell.Cell.{Cell}
 use Rattle.range_core.specs.declared.lending.Away.{Away}
@@ -22,11 +20,6 @@ use Rattle.range_core.specs.declared.lending.Lender.TheVariants.{Reading, Writeb
 -- a page has a block's length
 abbrev pub IsWholePage : ℕ → Page → Type 0
 IsWholePage size p = length p.bytes ≡ size
-
--- at home a block has the sector of its kind, and away its kind has one that is elsewhere
-abbrev pub HasPlace : ℕ → Kind → Option DeviceBlock → Option Away → Type 0
-HasPlace size kind sector None = HasSector size (device_number kind) sector
-HasPlace size kind sector (Some away) = (sector ≡ None) × IsTrue (has_space kind)
 
 -- at home, the sector of a mapped block that is clean has the content; a block of another kind that is not dirty reads as zeros
 pub record IsHomeContent (size : ℕ) (c : Cell) (content : Content) : Type 0 where
@@ -69,6 +62,9 @@ FitsAway size b c content (Some away) (Some h) = FitsClaim size b c content away
 abbrev pub gone : Option Away → ℕ
 gone None = 0
 gone (Some away) = 1
+
+abbrev pub is_gone : Cell → ℕ
+is_gone c = gone c.away
 
 -- Where a block is away, exactly one claim names it, and that claim fits it; where it is at home, none does
 pub record AwayIsClaimed (size b : ℕ) (c : Cell) (content : Content) (stakes : List RangeStake) : Type 0 where

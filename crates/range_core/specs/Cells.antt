@@ -1,9 +1,10 @@
-use Rattle.std.specs.Prelude.{◌≡◌, ℕ, false, Option, Some, None, List, [], ◌∷◌, length, drop, slice_get, IsSomeAnd, if◌then◌else◌}
+use Rattle.std.specs.Prelude.{◌≡◌, ℕ, false, Option, Some, None, List, [], ◌∷◌, length, drop, slice_get, IsSomeAnd, IsTrue, if◌then◌else◌}
 use Rattle.iob_base.specs.DeviceBlock.{DeviceBlock}
 use Rattle.io_model.specs.Kinds.{device_number}
 use Rattle.io_model.specs.declared.file.Kind.{Kind}
 use Rattle.range_core.specs.Kinds.{has_space}
 use Rattle.range_core.specs.declared.cell.Cell.{Cell}
+use Rattle.range_core.specs.declared.lending.Away.{Away}
 
 -- a block of the device is the one of this number, and whole
 pub record IsBlock (size number : ℕ) (sector : DeviceBlock) : Type 0 where
@@ -15,9 +16,13 @@ abbrev pub HasSector : ℕ → Option ℕ → Option DeviceBlock → Type 0
 HasSector size None sector = sector ≡ None
 HasSector size (Some number) sector = IsSomeAnd sector (IsBlock size number)
 
--- a block is at home: it has its sector where its kind has space
-abbrev pub IsHome : ℕ → Cell → Type 0
-IsHome size c = HasSector size (device_number c.kind) c.sector
+-- at home a block has the sector of its kind, and away its kind has one that is elsewhere
+abbrev pub HasPlace : ℕ → Kind → Option DeviceBlock → Option Away → Type 0
+HasPlace size kind sector None = HasSector size (device_number kind) sector
+HasPlace size kind sector (Some away) = (sector ≡ None) × IsTrue (has_space kind)
+
+abbrev pub IsPlaced : ℕ → Cell → Type 0
+IsPlaced size c = HasPlace size c.kind c.sector c.away
 
 -- a block of this kind and with this sector, without a page
 abbrev pub cold_cell : Kind → Option DeviceBlock → Cell

@@ -33,6 +33,13 @@ either_held (Some held) other = Some held
 abbrev pub merged_claims : ClaimsView → ClaimsView → ClaimsView
 merged_claims into from = record into { spare = into.spare + from.spare; held = either_held into.held from.held }
 
+-- these claims with a claim on lent blocks, and without one
+abbrev pub holding : ClaimsView → Held → ClaimsView
+holding c held = record c { held = Some held }
+
+abbrev pub released : ClaimsView → ClaimsView
+released c = record c { held = None }
+
 -- at most one of two seats has a claim, and at most one has spare numbers
 pub record MayMerge (into from : ClaimsView) : Type 0 where
   pub one_held : (into.held ≡ None) ⊎ (from.held ≡ None)

@@ -13,6 +13,7 @@ use Rattle.range_core.specs.EntryStamps.{stamps_in}
 use Rattle.range_core.specs.Kinds.{is_delalloc, is_unwritten}
 use Rattle.range_core.specs.Lookups.{GivesPresent}
 use Rattle.range_core.specs.RangeView.{RangeView}
+use Rattle.range_core.specs.Space.{ClaimsSpace}
 use Rattle.range_core.specs.Stakes.{RangeStake, IsApart}
 use Rattle.range_core.specs.declared.cell.Cell.{Cell}
 use Rattle.range_core.specs.declared.entry.Entry.{Entry}
@@ -26,6 +27,7 @@ pub record IsSameRun (opening now : RangeView) : Type 0 where
   pub mode : now.mode ≡ opening.mode
   pub first : now.first ≡ opening.first
   pub blocks : length now.cells ≡ length opening.cells
+  pub pool : now.seat.cell ≡ opening.seat.cell
 
 -- the content of the i-th block: the replay of the history from its content at the opening
 abbrev pub content_at : RangeView → List Entry → ℕ → Content
@@ -62,6 +64,7 @@ pub record IsUncached (c : Cell) : Type 0 where
 -- The range truth, of a range as it was opened and as it is now
 pub record RangeTruth (opening now : RangeView) (history : List Entry) (stakes : List RangeStake) : Type 0 where
   pub same_run : IsSameRun opening now
+  pub few : opening.first + length opening.cells ≤ 65536
   pub blocks : (i : ℕ) (c : Cell) → slice_get now.cells i ≡ Some c → IsTrueAt opening.geometry.block_size (opening.first + i) c (content_at opening history i) stakes
   pub states : StatesAreReplayed opening now history
   pub errors_counted : now.errors ≡ min (opening.errors + total failures history) (2 ^ 64 - 1)
@@ -69,6 +72,7 @@ pub record RangeTruth (opening now : RangeView) (history : List Entry) (stakes :
   pub cookie_counts_changes : now.cookie ≡ opening.cookie + total changes history
   pub samples_give_extents : All (GivesPresent now) history
   pub journal_is_history : now.log ≡ opening.log ++ stamps_in opening.geometry.block_size history
+  pub pool_claims_sectors : ClaimsSpace opening.geometry.block_size now.cells now.space
   pub cookie_has_headroom : max now.cookie WORN + total pending now.cells ≤ WORN + 65536
   pub dax_is_uncached : now.mode ≡ Dax → All IsUncached now.cells
   pub callers_are_apart : (caller : ℕ) → caller < 2 ^ 32 → IsApart caller history stakes

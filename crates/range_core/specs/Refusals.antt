@@ -22,7 +22,7 @@ abbrev pub ◌orElse◌ : Option EventFault → Option EventFault → Option Eve
 None orElse other = other
 (Some fault) orElse other = Some fault
 
-abbrev where_true : Bool → EventFault → Option EventFault
+abbrev pub where_true : Bool → EventFault → Option EventFault
 where_true t fault = if t then Some fault else None
 
 -- the first of these blocks, the first of which is b, that hinders

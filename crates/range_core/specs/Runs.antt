@@ -14,6 +14,12 @@ abbrev pub run_length : List Cell → ℕ → ℕ
 run_length [] n = 0
 run_length (c ∷ cells) n = run_from c.kind 0 (c ∷ cells) n
 
+-- of at most n items, how many pass a test by their number, before the first that does not; the first item has the number i
+abbrev pub leading : {A : Type 0} → (ℕ → A → Bool) → ℕ → List A → ℕ → ℕ
+leading p i [] n = 0
+leading p i (x ∷ xs) zero = 0
+leading p i (x ∷ xs) (suc n) = if p i x then suc (leading p (i + 1) xs n) else 0
+
 -- the first block is mapped
 abbrev pub begins_mapped : List Cell → Bool
 begins_mapped [] = false

@@ -7,14 +7,23 @@ use Rattle.io_model.specs.declared.file.Kind.{Kind}
 use Rattle.io_model.specs.declared.file.Kind.TheVariants.{Hole, Delalloc, Unwritten, Mapped}
 use Rattle.range_core.specs.RangeView.{RangeView}
 use Rattle.range_core.specs.Refusals.{reserve_refusal, fetch_refusal, store_refusal, lend_read_refusal, lend_writeback_refusal, direct_now_refusal, wipe_refusal}
+use Rattle.range_core.specs.Space.{SpaceClaims}
+use Rattle.space_pool.specs.declared.entry.PoolEntry.{PoolEntry}
+use Rattle.turn_cell.specs.Views.{SeatView, first_seat}
 use Rattle.range_core.specs.declared.cell.Cell.{Cell}
 use Rattle.range_core.specs.declared.fault.EventFault.TheVariants.{Stale, Away, Cold, Settled, Unattached, Dirty, Worn}
 use Rattle.range_core.specs.declared.lending.Lender.{Lender}
 use Rattle.range_core.specs.declared.lending.Lender.TheVariants.{Reading, Writeback}
 use Rattle.range_core.specs.declared.sample.Sample.{Sample}
 
+abbrev seat : SeatView PoolEntry
+seat = first_seat (record { words = 1; slots = 1; views_name = 0; atom = 0; block = 0; offset = 0; slot_names = [] }) 1
+
+abbrev space : SpaceClaims
+space = record { numbers = []; reserved = 0; cap = 3; size = 4 }
+
 abbrev range : ℕ → List Cell → RangeView
-range cookie cells = record { geometry = record { block_size = 4; folio_blocks = 4 }; mode = Cached; first = 0; cells = cells; log = []; cookie = cookie; errors = 0; tickets = 6 }
+range cookie cells = record { geometry = record { block_size = 4; folio_blocks = 4 }; mode = Cached; first = 0; cells = cells; log = []; cookie = cookie; errors = 0; tickets = 6; seat = seat; space = space }
 
 abbrev page : Page
 page = record { number = 0; bytes = 1 ∷ 2 ∷ 3 ∷ 4 ∷ [] }

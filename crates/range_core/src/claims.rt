@@ -25,7 +25,7 @@ impl Model for Claims {
 }
 
 impl Claims {
-    ghost use Rattle.range_core.specs.ClaimsView.{MayMerge, first_claims, merged_claims, next_claims, rest_claims, ticket_claims};
+    ghost use Rattle.range_core.specs.ClaimsView.{MayMerge, first_claims, holding, merged_claims, next_claims, released, rest_claims, ticket_claims};
 
     /// The claims of the first seat: the caller number 0, and all others spare.
     pub fn first() -> Claims
@@ -91,5 +91,19 @@ impl Claims {
         if self.held.is_none() {
             self.held = from.held;
         }
+    }
+
+    // Takes a claim on blocks that are lent.
+    pub(crate) fn hold(&mut self, held: Held)
+        ensures { self.new ≡ holding self.old held }
+    {
+        self.held = Some(held);
+    }
+
+    // Gives its claim up.
+    pub(crate) fn release(&mut self)
+        ensures { self.new ≡ released self.old }
+    {
+        self.held = None;
     }
 }

@@ -1,34 +1,57 @@
-//! A range and its events.
-ghost use Rattle.std.specs.Prelude.{◌≡◌, ◌+◌, ◌≤◌, [], ◌∷◌, Some, true, false, All, IfOk, IfErr, OnOk, OnErr, MatchResult, IsTrue, length, map};
+//! A range: how it begins and ends. Each event stands in a module of its own below.
+ghost use Rattle.std.specs.Prelude.{◌≡◌, ◌+◌, ◌≤◌, [], ◌∷◌, Some, None, All, IfOk, IsTrue, length, map};
 ghost use Rattle.io_model.specs.Fitting.{is_merged_from};
-ghost use Rattle.fault_device.specs.LaneView.{lane_seen};
-ghost use Rattle.fault_device.specs.Opening.{Opening, Serves};
-ghost use Rattle.fault_device.specs.Ran.{Ran};
+ghost use Rattle.turn_cell.specs.Seats.{seat_claims, seat_view};
 
+mod dax;
+mod dax_put;
+mod dax_zero;
+mod direct;
 mod drops;
+mod fetch;
 mod look;
+mod now;
+mod placing;
+mod reading;
+mod reserving;
+mod store;
+mod wiping;
+mod writeback;
+mod zero;
 
 use crate::cell::Cell;
 use crate::end::RangeEnd;
-use crate::fault::EventFault;
 use crate::merge::merge_kinds;
 use crate::open::build_cells;
-use crate::run::run_at;
-use crate::stamps::{add_stamps, end_blocks, stamp_done};
-use crate::transfer::{Pages, read_block_run};
+use crate::stamps::end_blocks;
+pub use dax::DaxGetBytes;
+pub use dax_put::DaxPutBytes;
+pub use dax_zero::DaxZeroBytes;
+pub use direct::{EndDirect, LendPages};
 pub use drops::DropPages;
-use fault_device::{Lane, Part};
+pub use fetch::FetchBytes;
 use io_model::Extent;
-use iob_base::{Geometry, Items, Mode, Sector, Stamp, Tag};
+use iob_base::{Geometry, Items, Mode, Sector, Stamp};
 pub use look::Look;
+pub use now::ReadNow;
+pub use placing::{AttachRun, PreallocateRun};
+pub use reading::{FillPages, LendCold};
+pub use reserving::{ReserveRun, UnreserveRun};
+use space_pool::PoolSeat;
 use std::alloc::{AllocError, Global};
 use std::marker::Model;
+pub use store::StoreBytes;
+pub use wiping::WipeRun;
+pub use writeback::{EndWriteback, LendDirty};
+pub use zero::StoreZeroBytes;
 
 /// A run of blocks of one file. Contracts see it as a `RangeView`.
 ///
 /// # Invariants
 ///
-/// Each block has its sector exactly where its kind has space, and each stamp is of a block of the range.
+/// Each block has its sector exactly where its kind has space and no ticket has it, and each stamp is of a block of the
+/// range. The seat at the pool claims exactly the sectors of the blocks, here and away, and has reserved one for each
+/// block that has space only promised to it. There is room for one stamp more of each block that is away.
 #[derive(Drop)]
 pub struct Range {
     geometry: Geometry,
@@ -39,34 +62,37 @@ pub struct Range {
     cookie: u64,
     errors: u64,
     tickets: u64,
-    parts: Vec<Part>,
+    seat: PoolSeat,
 }
 
 impl Model for Range {
-    ghost use Rattle.std.specs.Prelude.{◌≡◌, ◌≤◌, [], vec_capacity};
-    ghost use Rattle.range_core.specs.RangeView.{RangeView, IsSound};
+    ghost use Rattle.std.specs.Prelude.{◌+◌, ◌≤◌, vec_capacity, vec_len};
+    ghost use Rattle.turn_cell.specs.Seats.{seat_claims, seat_view};
+    ghost use Rattle.turn_cell.specs.Stakes.{total};
+    ghost use Rattle.range_core.specs.BlockTruth.{is_gone};
+    ghost use Rattle.range_core.specs.RangeView.{RangeView, IsSound, range_view};
 
     ghost Value = { RangeView };
 
-    ghost view = { λ r. record { geometry = r.geometry; mode = r.mode; first = r.first; cells = r.cells.items; log = r.log.items; cookie = r.cookie; errors = r.errors; tickets = r.tickets } };
+    ghost view = { λ r. range_view r.geometry r.mode r.first r.cells.items r.log.items r.cookie r.errors r.tickets (seat_view r.seat) (seat_claims r.seat).facts };
 
-    ghost invariant = { λ r. IsSound r.geometry.block_size r.first r.cells.items r.log.items × (r.parts.items ≡ []) × (16 ≤ vec_capacity r.parts) };
+    ghost invariant = { λ r. IsSound (range_view r.geometry r.mode r.first r.cells.items r.log.items r.cookie r.errors r.tickets (seat_view r.seat) (seat_claims r.seat).facts) × (vec_len r.log + total is_gone r.cells.items ≤ vec_capacity r.log) };
 }
 
 impl Range {
-    ghost use Rattle.range_core.specs.Cells.{IsHome};
-    ghost use Rattle.range_core.specs.Events.{IsServedBy, RefusesNow, page_shape, with_stamps};
     ghost use Rattle.range_core.specs.Kinds.{kinds_from};
-    ghost use Rattle.range_core.specs.Lending.{pages_filled};
     ghost use Rattle.range_core.specs.Opening.{CanOpen};
     ghost use Rattle.range_core.specs.ClaimsView.{first_claims};
     ghost use Rattle.range_core.specs.RangeTruth.{RangeTruth};
-    ghost use Rattle.range_core.specs.RangeView.{CanReadNow, cells_from, range_of};
-    ghost use Rattle.range_core.specs.Runs.{run_length};
-    ghost use Rattle.range_core.specs.Stamps.{bare_end, done_by, journaled, stamps_from};
+    ghost use Rattle.range_core.specs.RangeView.{IsSound, range_of};
+    ghost use Rattle.range_core.specs.Stamps.{bare_end, journaled};
 
-    /// The range of `blocks` blocks from the file block `first`, with the kinds that the extents give. The
-    /// sectors are those of the extents, in order of blocks.
+    /// The range of `blocks` blocks from the file block `first`, with the kinds that the extents give. The sectors are
+    /// those of the extents, in order of blocks, and the seat at the pool claims them.
+    ///
+    /// # Errors
+    ///
+    /// Want of memory, which drops what was handed in.
     pub fn new(
         alloc: Global,
         geometry: Geometry,
@@ -75,14 +101,14 @@ impl Range {
         blocks: u64,
         extents: Vec<Extent>,
         sectors: Vec<Sector>,
+        seat: PoolSeat,
         cookie: u64,
     ) -> Result<Range, AllocError>
-        requires { CanOpen geometry.block_size first blocks extents.items sectors.items cookie }
-        ensures ok { IfOk result (λ r. r ≡ range_of geometry mode first blocks extents.items sectors.items cookie) }
-        ensures homes { IfOk result (λ r. All (IsHome r.geometry.block_size) r.cells) }
+        requires { CanOpen geometry.block_size first blocks extents.items sectors.items (seat_claims seat).facts cookie }
+        ensures ok { IfOk result (λ r. r ≡ range_of geometry mode first blocks extents.items sectors.items (seat_view seat) (seat_claims seat).facts cookie) }
+        ensures home { IfOk result (λ r. All (λ c. c.away ≡ None) r.cells) }
         ensures truth { IfOk result (λ r. RangeTruth r r [] ((Some first_claims, []) ∷ [])) }
     {
-        let parts = Vec::with_capacity(alloc, 16)?;
         let cells = build_cells(alloc, extents.as_slice(), first, blocks, sectors)?;
         Ok(Range {
             geometry,
@@ -93,57 +119,25 @@ impl Range {
             cookie,
             errors: 0,
             tickets: 0,
-            parts,
+            seat,
         })
     }
 
-    /// Reads, by one read of the lane, the longest run of mapped blocks from `block` on that one extent
-    /// could say, of at most as many blocks as there are pages. It fills the first pages, stamps these
-    /// blocks and answers their number.
-    ///
-    /// `NoMemory` and `Poison` leave the range as it was.
-    pub fn direct_now(
-        &mut self,
-        by: Tag,
-        lane: &mut Lane,
-        block: u64,
-        pages: &mut Pages,
-    ) -> Result<u64, EventFault>
-        requires { CanReadNow self.old block pages.old.items }
-
-        // How far it goes, what the pages have then, and what is stamped.
-        ensures ok { IfOk result (λ n. n ≡ run_length (cells_from self.old block) (length pages.old.items)) }
-        ensures read { IfOk result (λ n. pages.new.items ≡ pages_filled n (cells_from self.old block) pages.old.items) }
-        ensures state { IfOk result (λ n. self.new ≡ with_stamps self.old (stamps_from block n (done_by by))) }
-        ensures lane { OnOk result (Ran 1 (lane_seen count tells lane.old) (lane_seen count tells lane.new)) }
-
-        // What a refusal leaves.
-        ensures refused { IfErr result (λ e. RefusesNow (run_length (cells_from self.old block) (length pages.old.items)) e
-            (lane_seen count tells lane.old) (lane_seen count tells lane.new)) }
-        ensures unchanged { OnErr result (self.new ≡ self.old) }
-
-        ensures shapes { map page_shape pages.new.items ≡ map page_shape pages.old.items }
-        ensures serves { (o : Opening) → Serves o (lane_seen count tells lane.old)
-            → MatchResult result (λ _. Serves o (lane_seen count tells lane.new)) (λ e. IsServedBy o e (lane_seen count tells lane.new)) }
+    /// What every range keeps. It does nothing.
+    pub fn is_kept(&self)
+        ensures { IsSound self.now }
     {
-        let at = (block - self.first) as usize;
-        let n = run_at(&self.cells, at, pages.len());
-        if self.log.reserve(n).is_err() {
-            return Err(EventFault::NoMemory);
-        }
-        let done = read_block_run(&mut self.cells, at, n, pages, &mut self.parts, lane);
-        if done.failed {
-            return Err(EventFault::Poison { done });
-        }
-        add_stamps(&mut self.log, block, n, stamp_done(by));
-        Ok(n as u64)
+        let _ = &self.geometry;
     }
 
-    /// Takes the range apart. Want of memory drops it.
+    /// Takes the range apart, where no block is away. Want of memory drops it.
     pub fn end(self) -> Result<RangeEnd, AllocError>
+        requires { All (λ c. c.away ≡ None) self.cells }
         ensures merged { IfOk result (λ e. IsTrue (is_merged_from self.first (self.first + length self.cells) e.extents)) }
         ensures kinds { IfOk result (λ e. kinds_from e.extents self.first (length self.cells) ≡ map (λ c. c.kind) self.cells) }
         ensures blocks { IfOk result (λ e. e.blocks ≡ journaled self.first self.log (map bare_end self.cells)) }
+        ensures seat { IfOk result (λ e. seat_view e.seat ≡ self.seat) }
+        ensures space { IfOk result (λ e. (seat_claims e.seat).facts ≡ self.space) }
     {
         let Range {
             geometry: _,
@@ -154,7 +148,7 @@ impl Range {
             cookie: _,
             errors: _,
             tickets: _,
-            parts: _,
+            seat,
         } = self;
         let alloc = *log.allocator();
         let extents = merge_kinds(alloc, first, cells.as_slice())?;
@@ -162,6 +156,7 @@ impl Range {
         Ok(RangeEnd {
             extents: Items::from_vec(extents),
             blocks: Items::from_vec(blocks),
+            seat,
         })
     }
 }

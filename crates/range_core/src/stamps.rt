@@ -23,7 +23,9 @@ pub(crate) fn stamp_done(by: Tag) -> Stamp
 pub(crate) fn add_stamps(log: &mut Vec<(u64, Stamp)>, block: u64, n: usize, stamp: Stamp)
     requires room { vec_len log.old + n ≤ vec_capacity log.old }
     requires fits { block + n < 2 ^ 64 }
-    ensures { log.new.items ≡ log.old.items ++ stamps_from block n stamp }
+    ensures items { log.new.items ≡ log.old.items ++ stamps_from block n stamp }
+    ensures len { vec_len log.new ≡ vec_len log.old + n }
+    ensures kept { vec_capacity log.new ≡ vec_capacity log.old }
 {
     for i in 0..n {
         log.push_reserved((block + i as u64, stamp));

@@ -1,30 +1,67 @@
-use Rattle.std.proofs.Common.{◌≡◌, suc, [], ◌∷◌, length, sym, ◌∙◌, ap, subst}
-use Rattle.iob_base.specs.declared.stamp.Mode.TheVariants.{Cached}
+use Rattle.std.proofs.Common.{◌≡◌, suc, List, [], ◌∷◌, ◌++◌, length, sym, ◌∙◌, ap, subst}
+use Rattle.iob_base.specs.DeviceBlock.{DeviceBlock}
+use Rattle.io_model.specs.Contents.{device_bytes}
 use Rattle.io_model.specs.Right.{RunIsRight}
+use Rattle.io_model.specs.declared.file.FileEnd.{FileEnd}
 use Rattle.io_model.specs.declared.run.Run.{Run}
 use Rattle.iomap_replay.proofs.ReadRun.{if_ok}
-use Rattle.iomap_replay.proofs.Outcome.{right_from_outcome}
-use Rattle.iomap_replay.specs.OneRead.{opened_range, IsOutcome}
-use Rattle.iomap_replay.specs.Runs.{one_run, file_of_range}
-use Rattle.range_core.specs.RangeView.{RangeView, range_of}
+use Rattle.iomap_replay.proofs.OnePool.{closed_free}
+use Rattle.iomap_replay.proofs.Outcome.{IsEndOf, all_home, outcome_keeps, right_from_outcome}
+use Rattle.iomap_replay.specs.Devices.{SameNumbers, blocks_beside, first_number}
+use Rattle.iomap_replay.specs.Runs.{one_run}
+use Rattle.range_core.specs.RangeView.{RangeView}
+use Rattle.range_core.specs.Space.{SpaceClaims}
+use Rattle.space_pool.specs.Claims.{numbers_of}
+use Rattle.space_pool.specs.Seats.{pool_cell}
+use Rattle.turn_cell.specs.Seats.{seat_claims, seat_view}
 use Rattle.iomap_replay.proofs.run.run_script.Goals as goal
+
+pub end-requires : goal.end-requires
+end-requires g c =
+    let script = c.args.script.now in
+    let job = c.args.job.now in
+    let old : RangeView = c.in_ok-range.range in
+    let new : RangeView = c.read_once.new.range in
+    all_home script job old new c.in_ok-range.ensures.opened (outcome_keeps script job c.in_ok-end.end old new c.in_ok-end.ensures.outcome)
 
 pub returns-clause-right : goal.returns-clause-right
 returns-clause-right g c =
     let script = c.args.script.now in
     let job = c.args.job.now in
     let end = c.in_ok-end.end in
-    let new = c.read_once.new.range in
+    let old : RangeView = c.in_ok-range.range in
+    let new : RangeView = c.read_once.new.range in
     let lanes = c.insert.new.self.items in
-    let file = file_of_range c.in_ok-range-2.range in
-    let opened : c.in_ok-range.range ≡ opened_range script job =
-    c.in_ok-range.ensures ∙ ap (λ own. range_of job.geometry Cached 0 job.blocks (job.extent ∷ []) own 0) c.in_ok-own.ensures in
-    let O : RangeView → Type 0 = λ old. IsOutcome script job end old new in
-    let outcome : IsOutcome script job end (opened_range script job) new = subst O opened c.in_ok-end.ensures.outcome in
+    let free : List DeviceBlock = c.close-free.result.items in
+    let file : FileEnd = record { extents = c.in_ok-ended.ended.extents; blocks = c.in_ok-ended.ended.blocks } in
     let many : length lanes ≡ 17 = ap length c.in_ok-insert.ensures.items ∙ ap suc c.requires.lanes in
-    let left = c.in_ok-range-2.ensures in
-    let right = right_from_outcome script job end file c.in_ok-own.free.items lanes new c.requires.job outcome
-    (record { merged = left.merged; kinds = left.kinds; blocks = left.blocks }) many in
-    let P : Run → Type 0 = λ run. run ≡ one_run end file c.in_ok-own.free.items lanes in
+    let left = c.in_ok-ended.ensures in
+    let ends : IsEndOf file new = record { merged = left.merged; kinds = left.kinds; blocks = left.blocks } in
+    let right = right_from_outcome script job end file free lanes old new c.requires.job c.in_ok-range.ensures.opened c.in_ok-end.ensures.outcome ends many in
+    let P : Run → Type 0 = λ run. run ≡ one_run end file free lanes in
     let R : Run → Type 0 = RunIsRight script (0 ∷ []) in
     if_ok c.assemble_run.result P R (λ run is. subst R (sym is) right) c.assemble_run.ensures
+
+pub returns-clause-free : goal.returns-clause-free
+returns-clause-free g c =
+    let script = c.args.script.now in
+    let job = c.args.job.now in
+    let end = c.in_ok-end.end in
+    let old : RangeView = c.in_ok-range.range in
+    let new : RangeView = c.read_once.new.range in
+    let lanes = c.insert.new.self.items in
+    let own : List DeviceBlock = c.in_ok-own.own.items in
+    let free : List DeviceBlock = c.close-free.result.items in
+    let file : FileEnd = record { extents = c.in_ok-ended.ended.extents; blocks = c.in_ok-ended.ended.blocks } in
+    let all : List DeviceBlock = blocks_beside (device_bytes script) (first_number job.extent.kind) job.extent.length job.device.blocks in
+    let keeps = outcome_keeps script job end old new c.in_ok-end.ensures.outcome in
+    let N : List DeviceBlock → Type 0 = λ ys. SameNumbers free ys in
+    let seat = c.in_ok-ended.ended.seat in
+    let claimed : (seat_claims seat).facts.numbers ≡ numbers_of own =
+    ap (λ (s : SpaceClaims). s.numbers) (c.in_ok-ended.ensures.space ∙ keeps.space ∙ c.in_ok-range.ensures.space ∙ c.in_ok-pool.ensures.claims) ∙ ap numbers_of c.deref.ensures.value in
+    let numbers : (pool_cell c.in_ok-pool.pool).opening.numbers ≡ numbers_of own ++ numbers_of c.in_ok-own.free.items =
+    c.in_ok-pool.ensures.numbers ∙ ap (λ o. numbers_of o ++ numbers_of c.in_ok-own.free.items) c.deref.ensures.value in
+    let same : SameNumbers free all = subst N c.in_ok-own.ensures.free (closed_free (pool_cell c.in_ok-pool.pool).opening (seat_view seat) (seat_claims seat) free own c.in_ok-own.free.items c.close-free.ensures claimed numbers) in
+    let P : Run → Type 0 = λ run. run ≡ one_run end file free lanes in
+    let R : Run → Type 0 = λ run. SameNumbers run.ends.free all in
+    if_ok c.assemble_run.result P R (λ run is. subst R (sym is) same) c.assemble_run.ensures

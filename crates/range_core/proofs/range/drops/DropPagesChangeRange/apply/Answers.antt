@@ -9,8 +9,11 @@ use Rattle.range_core.specs.declared.cell.Cell.{Cell}
 use Rattle.range_core.specs.declared.entry.Entry.{Entry}
 use Rattle.range_core.proofs.AfterEntry.{paged_truth}
 use Rattle.range_core.proofs.DropLemmas.{dropped-kind, dropped-pending, dropped-state, dropped-true, dropped-uncached}
-use Rattle.range_core.proofs.OnRunLemmas.{All-on_run, length-on_run, map-on_run, on_run-at, total-on_run}
+use Rattle.range_core.proofs.OnRunLemmas.{All-on_each, IsInRun, IsOutOfRun, length-on_each, map-on_each, on_each-at, total-on_each}
 use Rattle.range_core.proofs.range.drops.DropPagesChangeRange.apply.Goals as goal
+
+abbrev drops : ℕ → Cell → Cell
+drops _ c = without_clean_page c
 
 pub returns : goal.returns
 returns c s =
@@ -28,12 +31,12 @@ returns c s =
           (paged_truth s.opening was cells s.history entry s.stakes s.number claims s.made s.stands.holds s.stands.here
           (record { content = λ b x. refl; state = λ b x. refl; failed = refl; lent = refl; changed = refl; stamps = refl })
           tt refl
-          (length-on_run without_clean_page low run.blocks was.cells)
-          (map-on_run without_clean_page (λ (x : Cell). x.kind) dropped-kind low run.blocks was.cells)
-          (total-on_run without_clean_page pending dropped-pending low run.blocks was.cells)
-          (All-on_run without_clean_page IsUncached dropped-uncached low run.blocks was.cells)
+          (length-on_each drops 0 low run.blocks was.cells)
+          (map-on_each drops (λ (x : Cell). x.kind) (λ _. dropped-kind) 0 low run.blocks was.cells)
+          (total-on_each drops pending (λ _. dropped-pending) 0 low run.blocks was.cells)
+          (All-on_each drops IsUncached (λ _. dropped-uncached) 0 low run.blocks was.cells)
           (λ i old x there at. let S : Cell → Type 0 = λ y. state_of y ≡ state_of old in
-          ⊎_elim (λ (e : x ≡ old). subst S (sym e) refl) (λ (e : x ≡ without_clean_page old). subst S (sym e) (dropped-state old)) (on_run-at without_clean_page low run.blocks i was.cells old x there at))
+          ⊎_elim (λ (e : IsInRun drops 0 low run.blocks i old x). subst S (sym e.is) (dropped-state old)) (λ (e : IsOutOfRun low run.blocks i old x). subst S (sym e.is) refl) (on_each-at drops 0 low run.blocks i was.cells old x there at))
           (λ i old x b content there at h. let S : Cell → Type 0 = λ y. IsTrueAt s.opening.geometry.block_size b y content s.stakes in
-          ⊎_elim (λ (e : x ≡ old). subst S (sym e) h) (λ (e : x ≡ without_clean_page old). subst S (sym e) (dropped-true _ b old content s.stakes h)) (on_run-at without_clean_page low run.blocks i was.cells old x there at)));
+          ⊎_elim (λ (e : IsInRun drops 0 low run.blocks i old x). subst S (sym e.is) (dropped-true _ b old content s.stakes h)) (λ (e : IsOutOfRun low run.blocks i old x). subst S (sym e.is) h) (on_each-at drops 0 low run.blocks i was.cells old x there at)));
     }

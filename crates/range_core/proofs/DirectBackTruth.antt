@@ -1,0 +1,402 @@
+-- The range truth after a turn that brings blocks home from a caller's own pages.
+use Rattle.std.proofs.Common.{◌≡◌, ℕ, zero, suc, ◌+◌, ◌-◌, ◌*◌, ◌<◌, ◌≤◌, Bool, true, false, ◌&&◌, if◌then◌else◌, Option, Some, None, List, [], ◌∷◌, ◌++◌, length, map, get_or, set, refl, sym, ◌∙◌, ap, subst, arith, ⊎_elim}
+use Rattle.std.specs.Prelude.{max, nat_lt, slice_get}
+use Rattle.std.proofs.lemmas.Bool.{lt-ltb}
+use Rattle.std.proofs.lemmas.Option.{slice_get-get_or}
+use mathlib.Core.Option.{some}
+use lib.ListN.{get_elem?}
+use Rattle.arrayvec.specs.ArrayVec.{ArrayVec}
+use Rattle.iob_base.specs.declared.TheConstants.{WORN}
+use Rattle.iob_base.specs.declared.sector.Page.{Page}
+use Rattle.iob_base.specs.declared.stamp.Mode.TheVariants.{Dax}
+use Rattle.iob_base.specs.declared.stamp.Op.{Op}
+use Rattle.iob_base.specs.declared.stamp.Op.TheVariants.{Read, Write}
+use Rattle.iob_base.specs.declared.stamp.Tag.{Tag}
+use Rattle.fault_device.specs.declared.lane.Done.{Done}
+use Rattle.fault_device.specs.declared.part.Part.{Part}
+use Rattle.io_model.specs.Contents.{Content}
+use Rattle.io_model.specs.declared.file.Kind.{Kind}
+use Rattle.io_model.specs.declared.file.Kind.TheVariants.{Hole}
+use Rattle.turn_cell.specs.Laws.{Advanced}
+use Rattle.turn_cell.specs.Stakes.{total}
+use Rattle.range_core.specs.BlockContents.{content_back}
+use Rattle.range_core.specs.BlockStates.{directly_back, state_of}
+use Rattle.range_core.specs.BlockTruth.{IsLentContent, IsTrueAt}
+use Rattle.range_core.specs.Cells.{IsPlaced}
+use Rattle.range_core.specs.ClaimsView.{ClaimsView, released}
+use Rattle.range_core.specs.DirectBacks.{IsCold, KeepsPages, ReadsContents, ReadyToReturn, ReturnedDirectly, after_direct_back, back_in, came_back, kind_held, marked_back, pages_held}
+use Rattle.range_core.specs.EntryCounts.{is_write_back, one_where}
+use Rattle.range_core.specs.EntryStamps.{direct_stamps}
+use Rattle.range_core.specs.Kinds.{is_mapped, is_unwritten}
+use Rattle.range_core.specs.Lends.{home_cell}
+use Rattle.range_core.specs.Loans.{ChangesSeat}
+use Rattle.range_core.specs.OnRun.{on_each}
+use Rattle.range_core.specs.RangeTruth.{IsUncached, RangeTruth, content_at, pending}
+use Rattle.range_core.specs.RangeView.{RangeView}
+use Rattle.range_core.specs.Returning.{ComesBack, IsOutOn, MayComeBack, parts_after}
+use Rattle.range_core.specs.Spots.{in_run}
+use Rattle.range_core.specs.Stakes.{RangeStake, names_block}
+use Rattle.range_core.specs.declared.cell.Cell.{Cell}
+use Rattle.range_core.specs.declared.entry.Entry.{Entry}
+use Rattle.range_core.specs.declared.entry.Event.TheVariants.{DirectBack}
+use Rattle.range_core.specs.declared.entry.Outcome.TheVariants.{Finished}
+use Rattle.range_core.specs.declared.lending.Held.{Held}
+use Rattle.range_core.specs.declared.lending.Lender.TheVariants.{Direct}
+use Rattle.range_core.specs.declared.lending.Lent.{Lent}
+use Rattle.range_core.specs.declared.range.direct.EndDirect.{EndDirect}
+use Rattle.range_core.proofs.AfterEntry.{quiet_tickets}
+use Rattle.range_core.proofs.AfterRun.{ChangesRun, CountsNext, changed_truth, in_run-true}
+use Rattle.range_core.proofs.DirectBackLemmas.{IsBackRun, back-kind, back_out, back_placed, back_run, back_space}
+use Rattle.range_core.proofs.DirectLendLemmas.{unnamed_true}
+use Rattle.range_core.proofs.FirstTruth.{All-there}
+use Rattle.range_core.proofs.KindRuns.{kinds_of}
+use Rattle.range_core.proofs.KindSteps.{mapped-after, unwritten-after}
+use Rattle.range_core.proofs.OnRunLemmas.{IsInRun, IsOutOfRun, on_each-at}
+use Rattle.range_core.proofs.ReturnLemmas.{are_out, claim_at, comes_back}
+use Rattle.range_core.proofs.SampleLemmas.{samples_next}
+use Rattle.range_core.proofs.SoundLemmas.{total-moved}
+use Rattle.range_core.proofs.TransferLemmas.{after-at, length-after, moved, part_after}
+use Rattle.range_core.proofs.DirectBackBlocks.{AgreesBack, IsDirectlyOut, agrees_back, back_pending, back_state, back_true, content_inside, content_outside, directly_out, kind-stays, lost_by, map-on_each-at, out_of_run, pageless_clean, rise-within}
+
+module _ (opening now : RangeView) (history : List Entry) (stakes : List RangeStake) (number : ℕ) (claims : ClaimsView) (made : List Entry) (by : Tag) (op : Op) (back : Lent) (done : Done)
+    (t : RangeTruth opening now history stakes) (here : get_elem? stakes number ≡ some (Some claims, made)) (may : MayComeBack opening claims (Direct by op) op back done) where
+  abbrev h : Held
+  h = may.claim
+
+  abbrev n : ℕ
+  n = length back.parts.items
+
+  abbrev comes : ComesBack now claims (Direct by op) op back done
+  comes = record { claim = h; lent_for = may.lent_for; is_return = may.is_return; out = are_out opening now history stakes number claims made h t here may.is_return.held may.lies }
+
+  run : IsBackRun now back done
+  run = back_run now claims (Direct by op) op back done comes
+
+  many : n ≡ length h.lent.value.parts.items
+  many = ap length may.is_return.parts ∙ length-after op done.landed h.lent.value.parts.items
+
+  block_is : back.block ≡ h.lent.value.block
+  block_is = may.is_return.block
+
+  names_it : (b : ℕ) → names_block b (Some h) ≡ in_run back.block n b
+  names_it b = ap (λ m. in_run m (length h.lent.value.parts.items) b) (sym block_is) ∙ ap (λ m. in_run back.block m b) (sym many)
+
+  -- each block of the claim is out on it
+  pub out_at : (k : ℕ) (was : Cell) (content : Content) → k < n → IsTrueAt opening.geometry.block_size (back.block + k) was content stakes → IsDirectlyOut opening.geometry.block_size k was content op by h
+  out_at k was content l true_at =
+      let size : ℕ = opening.geometry.block_size in
+      let b : ℕ = back.block + k in
+      let named : names_block b (Some h) ≡ true = names_it b ∙ in_run-true back.block n b (omega arith) (omega arith) in
+      let place : b ≡ h.lent.value.block + k = ap (λ m. m + k) block_is in
+      directly_out size b k was content op by h place may.lent_for true_at.place (claim_at size b was content stakes number claims made h true_at here may.is_return.held named)
+
+  -- there are cookies for what may come back
+  pub cookie_left : now.cookie ≤ WORN + 65536
+  cookie_left =
+      let room = t.cookie_has_headroom in
+      omega arith
+
+  abbrev kind : Kind
+  kind = kind_held claims.held
+
+  abbrev entry : Entry
+  entry = record { caller = claims.caller; event = DirectBack by op back.ticket back.block kind (map (λ p. p.bytes) (pages_held claims.held)) done; outcome = Finished }
+
+  kind_is : kind ≡ h.kind
+  kind_is = ap kind_held may.is_return.held
+
+  pages_are : pages_held claims.held ≡ map (λ p. p.page) h.lent.value.parts.items
+  pages_are = ap pages_held may.is_return.held
+
+  length-page_bytes : (parts : List Part) → length (map (λ (p : Page). p.bytes) (map (λ (p : Part). p.page) parts)) ≡ length parts
+  length-page_bytes [] = refl
+  length-page_bytes (p ∷ parts) = ap suc (length-page_bytes parts)
+
+  bytes-at : (k : ℕ) (parts : List Part) (p : Part) → slice_get parts k ≡ Some p → slice_get (map (λ (p : Page). p.bytes) (map (λ (p : Part). p.page) parts)) k ≡ Some p.page.bytes
+  bytes-at k [] p e = absurd (cc)
+  bytes-at zero (q ∷ parts) p e = let is : q ≡ p = cc in ap (λ (x : Part). Some x.page.bytes) is
+  bytes-at (suc k) (q ∷ parts) p e = bytes-at k parts p e
+
+  bytes_many : length (map (λ (p : Page). p.bytes) (pages_held claims.held)) ≡ n
+  bytes_many = ap (λ l. length (map (λ (p : Page). p.bytes) l)) pages_are ∙ length-page_bytes h.lent.value.parts.items ∙ sym many
+
+  -- what the k-th block has after the return agrees with its part
+  agrees_at : (k : ℕ) (was : Cell) (content : Content) (l : k < n) (true_at : IsTrueAt opening.geometry.block_size (back.block + k) was content stakes)
+      → AgreesBack opening.geometry.block_size op done k was.kind (out_at k was content l true_at).part content (content_back op back.block kind (map (λ p. p.bytes) (pages_held claims.held)) done (back.block + k) content)
+  agrees_at k was content l true_at =
+      let size : ℕ = opening.geometry.block_size in
+      let out = out_at k was content l true_at in
+      let there : slice_get (map (λ (p : Page). p.bytes) (pages_held claims.held)) k ≡ Some out.part.page.bytes =
+      ap (λ ps. slice_get (map (λ (p : Page). p.bytes) ps) k) pages_are ∙ bytes-at k h.lent.value.parts.items out.part out.part_is in
+      let A : Content → Type 0 = λ x. AgreesBack size op done k was.kind out.part content x in
+      let mapped : is_mapped kind ≡ is_mapped was.kind = ap is_mapped kind_is ∙ sym (mapped-after h.kind k) ∙ ap is_mapped out.kind in
+      let failed : done.failed ≡ nat_lt done.landed n = may.is_return.failed ∙ ap (λ m. nat_lt done.landed m) (sym many) in
+      subst A (sym (content_inside op back.block k kind _ done out.part.page.bytes content there))
+      (agrees_back size op done n k kind was.kind out.part content mapped out.space true_at.whole out.whole out.lent failed l)
+
+  abbrev next : RangeView
+  next = after_direct_back now by op kind back done
+
+  abbrev others : List RangeStake
+  others = set stakes number (Some (released claims), made ++ entry ∷ [])
+
+  seat_changes : ChangesSeat stakes others claims (released claims)
+  seat_changes = record { number = number; made = made; now = made ++ entry ∷ []; here = here; is = refl }
+
+  low_is : back.block - opening.first ≡ back.block - now.first
+  low_is = let f = t.same_run.first in omega arith
+
+  -- a block of the run, as the k-th
+  at_now : (k : ℕ) (was : Cell) → slice_get now.cells (back.block - opening.first + k) ≡ Some was → slice_get now.cells (back.block - now.first + k) ≡ Some was
+  at_now k was at = ap (λ m. slice_get now.cells (m + k)) (sym low_is) ∙ at
+
+  placed_at : (k : ℕ) (was : Cell) → k < n → slice_get now.cells (back.block - now.first + k) ≡ Some was → IsPlaced opening.geometry.block_size was → IsPlaced opening.geometry.block_size (came_back op done.failed (parts_after op done.landed h.lent.value.parts.items) k was)
+  placed_at k was l at placed =
+      let S : ℕ → Type 0 = λ size. IsOutOn size h k was in
+      let out : IsOutOn opening.geometry.block_size h k was = subst S (ap (λ g. g.block_size) t.same_run.geometry) (back_out now claims (Direct by op) op back done comes k was l at) in
+      back_placed opening.geometry.block_size op done.failed done.landed k h was out placed
+
+  back_changes : ChangesRun opening now next history entry stakes number claims (released claims) made (came_back op done.failed back.parts.items) back.block n
+  back_changes =
+      let size : ℕ = opening.geometry.block_size in
+      let begins = run.low in
+      let first = t.same_run.first in
+      record {
+        low = omega arith;
+        cells = ap (λ l. on_each (came_back op done.failed back.parts.items) 0 l n now.cells) (sym low_is);
+        outside = λ b outside. record {
+          content = λ x. content_outside op back.block kind (map (λ p. p.bytes) (pages_held claims.held)) done b x (out_of_run back.block n b _ bytes_many outside);
+          state = λ s. ap (λ m. if in_run back.block m b then directly_back op done.failed s else s) bytes_many ∙ ap (λ u. if u then directly_back op done.failed s else s) outside;
+          claims = λ c x. unnamed_true size b c x stakes others claims (released claims) seat_changes (ap (names_block b) may.is_return.held ∙ names_it b ∙ outside) refl;
+        };
+        inside = λ k was content l at true_at.
+            let out = out_at k was content l true_at in
+            let b : ℕ = back.block + k in
+            let inside : in_run back.block (length (map (λ (p : Page). p.bytes) (pages_held claims.held))) b ≡ true =
+            ap (λ m. in_run back.block m b) bytes_many ∙ in_run-true back.block n b (omega arith) (omega arith) in
+            let named : names_block b (Some h) ≡ true = names_it b ∙ in_run-true back.block n b (omega arith) (omega arith) in
+            let T : List Part → Type 0 = λ ps. IsTrueAt size b (came_back op done.failed ps k was) (content_back op back.block kind (map (λ p. p.bytes) (pages_held claims.held)) done b content) others in
+            let parts : back.parts.items ≡ parts_after op done.landed h.lent.value.parts.items = may.is_return.parts in
+            record {
+              state =
+                  back_state op done.failed back.parts.items k (part_after op done.landed k out.part) was (ap (λ ps. slice_get ps k) parts ∙ after-at op done.landed k h.lent.value.parts.items out.part out.part_is)
+                  ∙ sym (ap (λ u. if u then directly_back op done.failed (state_of was) else state_of was) inside);
+              holds = subst T (sym parts)
+                  (back_true size b k was content _ op by done h stakes others claims (released claims) seat_changes may.is_return.held refl named out (agrees_at k was content l true_at)
+                  (placed_at k was l (at_now k was at) true_at.place) true_at);
+            };
+      }
+
+  -- the truth of the k-th block before the return
+  true_now : (k : ℕ) (was : Cell) → slice_get now.cells (back.block - now.first + k) ≡ Some was → IsTrueAt opening.geometry.block_size (back.block + k) was (content_at opening history (back.block - opening.first + k)) stakes
+  true_now k was at =
+      let f = t.same_run.first in
+      let begins = run.low in
+      let i : ℕ = back.block - opening.first + k in
+      let place : back.block - now.first + k ≡ i = ap (λ m. m + k) (sym low_is) in
+      let b : opening.first + i ≡ back.block + k = omega arith in
+      let T : ℕ → Type 0 = λ m. IsTrueAt opening.geometry.block_size m was (content_at opening history i) stakes in
+      subst T b (t.blocks i was (ap (slice_get now.cells) (sym place) ∙ at))
+
+  pub out_now : (k : ℕ) (was : Cell) → k < n → slice_get now.cells (back.block - now.first + k) ≡ Some was → IsDirectlyOut opening.geometry.block_size k was (content_at opening history (back.block - opening.first + k)) op by h
+  out_now k was l at = out_at k was _ l (true_now k was at)
+
+  unwritten_at : (k : ℕ) (was : Cell) → k < n → slice_get now.cells (back.block - now.first + k) ≡ Some was → is_unwritten was.kind ≡ is_unwritten kind
+  unwritten_at k was l at = ap is_unwritten (sym (out_now k was l at).kind) ∙ unwritten-after h.kind k ∙ ap is_unwritten (sym kind_is)
+
+  within : back.block - now.first + n ≤ length now.cells
+  within = let begins = run.low in let ends = run.high in omega arith
+
+  part_there : (k : ℕ) (was : Cell) (l : k < n) (at : slice_get now.cells (back.block - now.first + k) ≡ Some was) → slice_get back.parts.items k ≡ Some (part_after op done.landed k (out_now k was l at).part)
+  part_there k was l at = ap (λ ps. slice_get ps k) may.is_return.parts ∙ after-at op done.landed k h.lent.value.parts.items (out_now k was l at).part (out_now k was l at).part_is
+
+  headroom : max next.cookie WORN + total pending next.cells ≤ WORN + 65536
+  headroom =
+      let f : ℕ → Cell → Cell = came_back op done.failed back.parts.items in
+      let lost : ℕ = lost_by op (is_unwritten kind) in
+      let moves = total-moved f pending lost 0 0 (back.block - now.first) n now.cells within
+      (λ j x l at.
+      let out = out_now j x l at in
+      let z : 0 + j ≡ j = omega arith in
+      let P : Bool → Type 0 = λ u. pending (f j x) + lost_by op u ≡ pending x + 0 in
+      let J : ℕ → Type 0 = λ m. pending (f m x) + lost ≡ pending x + 0 in
+      subst J (sym z) (subst P (unwritten_at j x l at) (back_pending op by done.failed back.parts.items j out.ticket _ x (part_there j x l at) out.away out.space))) in
+      let rise = rise-within op done.failed (is_unwritten kind) in
+      let room = t.cookie_has_headroom in
+      let many_lost = at_least n lost run.some in
+      omega arith
+    where
+      at_least : (m l : ℕ) → 0 < m → l ≤ m * l
+      at_least zero l h = absurd (omega arith)
+      at_least (suc m) l h = omega arith
+
+  kinds_stay : next.cookie ≡ now.cookie → kinds_of next.cells ≡ kinds_of now.cells
+  kinds_stay same =
+      map-on_each-at (came_back op done.failed back.parts.items) (λ (x : Cell). x.kind) 0 (back.block - now.first) n now.cells within
+      (λ j x l at.
+      let z : 0 + j ≡ j = omega arith in
+      let K : ℕ → Type 0 = λ m. ◌≡◌ {A = Kind} (came_back op done.failed back.parts.items m x).kind x.kind in
+      subst K (sym z) (back-kind op done.failed back.parts.items j x ∙ kind-stays op done.failed x.kind (out_now j x l at).space (ap (λ u. u && is_write_back op done.failed) (unwritten_at j x l at) ∙ none (is_unwritten kind && is_write_back op done.failed) (omega arith))))
+    where
+      none : (u : Bool) → one_where u ≡ 0 → u ≡ false
+      none true e = absurd (omega arith)
+      none false e = refl
+
+  back_counts : CountsNext opening.geometry.block_size now next entry
+  back_counts = record {
+    geometry = refl;
+    mode = refl;
+    first = refl;
+    pool = refl;
+    errors = let p = t.errors_counted in omega arith;
+    tickets = quiet_tickets opening now history entry stakes t refl;
+    cookie = refl;
+    log = ap (λ m. now.log ++ direct_stamps by op back.block kind m done) (sym bytes_many);
+    headroom = headroom;
+    uncached = λ d. absurd (cached d);
+    space = back_space opening.geometry.block_size op done.failed back.parts.items (back.block - now.first) n now.cells now.space t.pool_claims_sectors;
+  }
+    where
+      cached : now.mode ≡ Dax → ⊥
+      cached d =
+          let blank : Cell = record { kind = Hole; sector = None; away = None; page = None; dirty = false } in
+          let first : Cell = get_or now.cells (back.block - now.first + 0) blank in
+          let some = run.some in
+          let ends = within in
+          let at : slice_get now.cells (back.block - now.first + 0) ≡ Some first = slice_get-get_or now.cells (back.block - now.first + 0) blank (omega arith) in
+          let out = out_now 0 first some at in
+          let home = (All-there IsUncached now.cells _ first (t.dax_is_uncached d) at).home in
+          let gone = out.away in
+          cc
+
+  -- the truth holds after the return
+  pub back_truth : RangeTruth opening next (history ++ entry ∷ []) others
+  back_truth =
+      changed_truth opening now next history entry stakes number claims (released claims) made (came_back op done.failed back.parts.items) back.block n t here back_changes back_counts
+      (samples_next now next history entry refl (omega arith) kinds_stay t.samples_give_extents tt) (record { caller = refl; spare = refl; main = refl }) refl
+
+  blank : Cell
+  blank = record { kind = Hole; sector = None; away = None; page = None; dirty = false }
+
+  there_at : (k : ℕ) → k < n → slice_get now.cells (back.block - now.first + k) ≡ Some (get_or now.cells (back.block - now.first + k) blank)
+  there_at k l = let ends = within in slice_get-get_or now.cells (back.block - now.first + k) blank (omega arith)
+
+  -- the pages of mapped blocks that landed have the contents of these blocks
+  pub back_reads : ReadsContents opening history op kind back.block done.landed (map (λ p. p.page) back.parts.items)
+  back_reads = at op refl
+    where
+      page-at : (k : ℕ) (parts : List Part) (q : Part) (p : Page) → slice_get parts k ≡ Some q → slice_get (map (λ (x : Part). x.page) parts) k ≡ Some p → p ≡ q.page
+      page-at k [] q p e f = absurd (cc)
+      page-at zero (x ∷ parts) q p e f = let is : x ≡ q = cc in let here : x.page ≡ p = cc in sym here ∙ ap (λ (y : Part). y.page) is
+      page-at (suc k) (x ∷ parts) q p e f = page-at k parts q p e f
+
+      at : (o : Op) → op ≡ o → ReadsContents opening history o kind back.block done.landed (map (λ p. p.page) back.parts.items)
+      at Write e = tt
+      at Read e = λ k p mapped landed there.
+          let few = run.landed in
+          let l : k < n = omega arith in
+          let was : Cell = get_or now.cells (back.block - now.first + k) blank in
+          let out = out_now k was l (there_at k l) in
+          let content : Content = content_at opening history (back.block - opening.first + k) in
+          let is : p ≡ (part_after op done.landed k out.part).page = page-at k back.parts.items (part_after op done.landed k out.part) p (part_there k was l (there_at k l)) there in
+          let moved_is : (part_after op done.landed k out.part).page.bytes ≡ out.part.sector.bytes =
+          ap (λ o. (part_after o done.landed k out.part).page.bytes) e ∙ ap (λ u. (if u then moved Read out.part else out.part).page.bytes) (lt-ltb k done.landed landed) in
+          let L : Bool → Type 0 = λ u. IsLentContent opening.geometry.block_size u content out.part in
+          let on_device : is_mapped was.kind ≡ true = ap is_mapped (sym out.kind) ∙ mapped-after h.kind k ∙ ap is_mapped (sym kind_is) ∙ mapped in
+          ap (λ (x : Page). x.bytes) is ∙ moved_is ∙ subst L on_device out.lent
+
+  -- the blocks are not uptodate
+  pub back_cold : (k : ℕ) (c : Cell) → k < n → slice_get next.cells (back.block - next.first + k) ≡ Some c → IsCold c
+  back_cold k c l at =
+      let low : ℕ = back.block - now.first in
+      let f : ℕ → Cell → Cell = came_back op done.failed back.parts.items in
+      let was : Cell = get_or now.cells (low + k) blank in
+      let there = there_at k l in
+      let out = out_now k was l there in
+      let clean = pageless_clean opening.geometry.block_size (back.block + k) was _ stakes (true_now k was there) out.pageless in
+      ⊎_elim
+      (λ (e : IsInRun f 0 low n (low + k) was c). record {
+        page = ap (λ (x : Cell). x.page) e.is ∙ kept_page op done.failed (slice_get back.parts.items (0 + (low + k - low))) was ∙ out.pageless;
+        clean = ap (λ (x : Cell). x.dirty) e.is ∙ kept_dirty op done.failed (slice_get back.parts.items (0 + (low + k - low))) was ∙ clean;
+      })
+      (λ (e : IsOutOfRun low n (low + k) was c). absurd (⊎_elim (λ (x : low + k < low). let z : ⊥ = absurd (omega arith) in z) (λ (x : low + n ≤ low + k). let z : ⊥ = absurd (omega arith) in z) e.out))
+      (on_each-at f 0 low n (low + k) now.cells was c there at)
+    where
+      home_page : (o : Option Part) (x : Cell) → (home_cell o x).page ≡ x.page
+      home_page None x = refl
+      home_page (Some p) x = refl
+
+      home_dirty : (o : Option Part) (x : Cell) → (home_cell o x).dirty ≡ x.dirty
+      home_dirty None x = refl
+      home_dirty (Some p) x = refl
+
+      kept_page : (o : Op) (failed : Bool) (part : Option Part) (x : Cell) → (marked_back o failed (home_cell part x)).page ≡ x.page
+      kept_page Read true part x = home_page part x
+      kept_page Read false part x = home_page part x
+      kept_page Write true part x = home_page part x
+      kept_page Write false part x = home_page part x
+
+      kept_dirty : (o : Op) (failed : Bool) (part : Option Part) (x : Cell) → (marked_back o failed (home_cell part x)).dirty ≡ x.dirty
+      kept_dirty Read true part x = home_dirty part x
+      kept_dirty Read false part x = home_dirty part x
+      kept_dirty Write true part x = home_dirty part x
+      kept_dirty Write false part x = home_dirty part x
+
+-- what the event says of what it leaves and answers
+pub record DirectReturned (now next : RangeView) (claims left : ClaimsView) (by : Tag) (op : Op) (back : Lent) (done : Done) (pages : ArrayVec Page) : Type 0 where
+  pub state : next ≡ after_direct_back now by op (kind_held claims.held) back done
+  pub claims_are : left ≡ released claims
+  pub pages_are : pages.items ≡ map (λ p. p.page) back.parts.items
+  pub kept : KeepsPages op (pages_held claims.held) pages.items
+
+module _ (opening now : RangeView) (history : List Entry) (stakes : List RangeStake) (number : ℕ) (claims : ClaimsView) (made : List Entry) (change : EndDirect) (back : Lent)
+    (t : RangeTruth opening now history stakes) (here : get_elem? stakes number ≡ some (Some claims, made)) (ready : ReadyToReturn change opening claims) (given : change.back ≡ Some back) where
+  pub may_return : MayComeBack opening claims (Direct change.by change.op) change.op back change.done
+  may_return =
+      let same : ready.back ≡ back = cc (ready.back_is, given) in
+      let M : Lent → Type 0 = λ l. MayComeBack opening claims (Direct change.by change.op) change.op l change.done in
+      subst M same ready.may
+
+  pub comes_home : ComesBack now claims (Direct change.by change.op) change.op back change.done
+  comes_home = comes_back opening now history stakes number claims made (Direct change.by change.op) change.op back change.done t here may_return
+
+  pub cookie_ready : now.cookie ≤ WORN + 65536
+  cookie_ready = cookie_left opening now history stakes number claims made change.by change.op back change.done t here may_return
+
+  back_is : back_in change ≡ back
+  back_is = ap (λ o. back_in (record change { back = o })) given
+
+  pub turned_back : (next : RangeView) (left : ClaimsView) (later : EndDirect) (pages : ArrayVec Page) → later ≡ record change { back = None } → DirectReturned now next claims left change.by change.op back change.done pages
+      → Advanced RangeTruth (λ opening history entry. ReturnedDirectly change later opening history now next claims left pages entry) opening next history stakes number left made
+  turned_back next left later pages used r =
+      let kind : Kind = kind_held claims.held in
+      let bytes : List (List ℕ) = map (λ p. p.bytes) (pages_held claims.held) in
+      let entry_of : Lent → Entry = λ l. record { caller = claims.caller; event = DirectBack change.by change.op l.ticket l.block kind bytes change.done; outcome = Finished } in
+      let e : Entry = entry_of (back_in change) in
+      let E : Entry → Type 0 = λ x. RangeTruth opening next (history ++ x ∷ []) (set stakes number (Some left, made ++ x ∷ [])) in
+      let N : RangeView → Type 0 = λ v. RangeTruth opening v (history ++ entry_of back ∷ []) (set stakes number (Some left, made ++ entry_of back ∷ [])) in
+      let L : ClaimsView → Type 0 = λ c. RangeTruth opening (after_direct_back now change.by change.op kind back change.done) (history ++ entry_of back ∷ []) (set stakes number (Some c, made ++ entry_of back ∷ [])) in
+      let R : List Page → Type 0 = λ ps. ReadsContents opening history change.op kind back.block change.done.landed ps in
+      let S : Lent → Type 0 = λ l. ReadsContents opening history change.op kind l.block change.done.landed pages.items in
+      let C : RangeView → Type 0 = λ v. (k : ℕ) (c : Cell) → k < length back.parts.items → slice_get v.cells (back.block - v.first + k) ≡ Some c → IsCold c in
+      let many : length pages.items ≡ length back.parts.items = ap length r.pages_are ∙ length_pages back.parts.items in
+      let D : Lent → Type 0 = λ l. (k : ℕ) (c : Cell) → k < length pages.items → slice_get next.cells (l.block - next.first + k) ≡ Some c → IsCold c in
+      let cold : C next = subst C (sym r.state) (back_cold opening now history stakes number claims made change.by change.op back change.done t here may_return) in
+      record {
+        entry = e;
+        done = record {
+          change_is = used;
+          value = r.state ∙ ap (λ l. after_direct_back now change.by change.op kind l change.done) (sym back_is);
+          cold = subst D (sym back_is) (λ k c l at. cold k c (omega arith) at);
+          claims_are = r.claims_are;
+          pages_are = r.pages_are ∙ ap (λ (l : Lent). map (λ (p : Part). p.page) l.parts.items) (sym back_is);
+          kept = r.kept;
+          reads = subst S (sym back_is) (subst R (sym r.pages_are) (back_reads opening now history stakes number claims made change.by change.op back change.done t here may_return));
+          entry_is = refl;
+        };
+        holds = subst E (sym (ap entry_of back_is)) (subst N (sym r.state) (subst L (sym r.claims_are) (back_truth opening now history stakes number claims made change.by change.op back change.done t here may_return)));
+      }
+    where
+      length_pages : (parts : List Part) → length (map (λ (p : Part). p.page) parts) ≡ length parts
+      length_pages [] = refl
+      length_pages (p ∷ parts) = ap suc (length_pages parts)

@@ -1,0 +1,23 @@
+use Rattle.std.proofs.Common.{◌≡◌, ◌-◌, ◌++◌, sym, ◌∙◌, ap, subst, arith}
+use Rattle.turn_cell.specs.Seats.{seat_claims, seat_view}
+use Rattle.range_core.specs.DaxZeros.{CanZeroDax}
+use Rattle.range_core.specs.RangeView.{LiesAt, RangeView, range_view}
+use Rattle.range_core.specs.Stamps.{stamps_from}
+use Rattle.range_core.specs.declared.parts.ByteRun.{ByteRun}
+use Rattle.range_core.proofs.DaxZeroLemmas.{zeroed_room, zeroed_sound}
+use Rattle.range_core.proofs.range.Range.zero_through.Goals as goal
+
+pub invariant_of-self-2 : goal.invariant_of-self-2
+invariant_of-self-2 g c =
+    let r = c.self.inside in
+    let run : ByteRun = c.byte_run-run.result in
+    let view : RangeView = range_view r.geometry r.mode r.first r.cells.items r.log.items r.cookie r.errors r.tickets (seat_view r.seat) (seat_claims r.seat).facts in
+    let C : RangeView → Type 0 = λ v. CanZeroDax v c.args.seen c.args.from c.args.to in
+    let can : C view = subst C (sym c.self.view_is) c.requires.can in
+    let L : ByteRun → Type 0 = λ b. LiesAt view b.first b.blocks in
+    let lies : L run = subst L (sym c.byte_run-run.ensures.run) can.bytes.lies in
+    let size : run.size ≡ r.geometry.block_size = ap (λ (b : ByteRun). b.size) c.byte_run-run.ensures.run in
+    let log : c.add_stamps.new.log.items ≡ r.log.items ++ stamps_from run.first run.blocks c.stamp_done.result = c.add_stamps.ensures.items ∙ ap (λ l. l ++ stamps_from run.first run.blocks c.stamp_done.result) c.reserve.ensures.items in (
+      zeroed_sound view run c.clear_through.new.cells.items c.add_stamps.new.log.items c.stamp_done.result c.byte_run-run.ensures.met size lies c.self.invariant.0 c.clear_through.ensures log,
+      zeroed_room run (run.first - r.first) run.blocks _ _ _ r.cells.items c.clear_through.new.cells.items c.clear_through.ensures c.add_stamps.ensures.len (omega (arith, c.in-Ok.ensures.ok, c.add_stamps.ensures.kept, c.len.ensures, r.cells.ok.0)),
+    )

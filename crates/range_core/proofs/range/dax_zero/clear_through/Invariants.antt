@@ -1,0 +1,10 @@
+use Rattle.std.proofs.Common.{◌≡◌, ◌-◌, vec_len}
+use Rattle.range_core.specs.DaxZeros.{zeroed_through}
+use Rattle.range_core.specs.OnRun.{on_each}
+use Rattle.range_core.proofs.range.dax_zero.clear_through.Given as goal
+
+abbrev pub invariant-loop-k : goal.invariant-loop-k
+invariant-loop-k l = record {
+  cells : l.cells.items ≡ on_each (zeroed_through l.run) 0 (l.run.first - l.first) l.k l.initial.cells.items;
+  many : vec_len l.cells ≡ vec_len l.initial.cells;
+}

@@ -1,0 +1,140 @@
+-- What a turn that writes bytes straight into the sectors of a file does.
+use Rattle.std.specs.Prelude.{◌≡◌, ℕ, ◌+◌, ◌-◌, ◌/◌, ◌<◌, true, false, not, Option, Some, None, List, length, All, Result, Ok, Err, IfErr, IsSomeAnd, OnOk, slice_get}
+use Rattle.fault_device.specs.declared.lane.Done.{Done}
+use Rattle.iob_base.specs.DeviceBlock.{DeviceBlock}
+use Rattle.iob_base.specs.declared.stamp.Tag.{Tag}
+use Rattle.iov_iter.specs.IovView.{IovView}
+use Rattle.space_pool.specs.Claims.{with_more, with_taken}
+use Rattle.space_pool.specs.Pool.{HasSize, PoolView, no_space}
+use Rattle.space_pool.specs.Seats.{pool_cell}
+use Rattle.space_pool.specs.declared.entry.PoolEntry.{PoolEntry}
+use Rattle.turn_cell.specs.Views.{SeatView}
+use Rattle.range_core.specs.Attaching.{pairs_taken}
+use Rattle.range_core.specs.ByteRuns.{HasNext, run_between}
+use Rattle.range_core.specs.ClaimsView.{ClaimsView}
+use Rattle.range_core.specs.DaxPools.{GivesUp}
+use Rattle.range_core.specs.DaxReads.{IsThrough}
+use Rattle.range_core.specs.EntryCounts.{one_where}
+use Rattle.range_core.specs.Events.{with_stamps}
+use Rattle.range_core.specs.Kinds.{is_mapped}
+use Rattle.range_core.specs.OnRun.{with_each}
+use Rattle.range_core.specs.Placing.{count_in, is_empty, placed_at}
+use Rattle.range_core.specs.PoolTurns.{PoolPlace, ReservesAt, TakesAt, TurnsFor, at_seat, place_of}
+use Rattle.range_core.specs.RangeTruth.{IsUncached}
+use Rattle.range_core.specs.RangeView.{RangeView}
+use Rattle.range_core.specs.Refusals.{dax_put_refusal}
+use Rattle.range_core.specs.Samples.{IsKnown, WasGiven}
+use Rattle.range_core.specs.Space.{SpaceClaims}
+use Rattle.range_core.specs.Spots.{blocks_met, overlaid}
+use Rattle.range_core.specs.Stamps.{done_by, stamps_from}
+use Rattle.range_core.specs.Stores.{next_bytes, past}
+use Rattle.range_core.specs.Through.{made_mapped, through}
+use Rattle.range_core.specs.declared.cell.Cell.{Cell}
+use Rattle.range_core.specs.declared.entry.Entry.{Entry}
+use Rattle.range_core.specs.declared.entry.Event.TheVariants.{DaxPut}
+use Rattle.range_core.specs.declared.entry.Outcome.TheVariants.{Refused, Took}
+use Rattle.range_core.specs.declared.fault.EventFault.{EventFault}
+use Rattle.range_core.specs.declared.fault.EventFault.TheVariants as fault
+use Rattle.range_core.specs.declared.parts.ByteRun.{ByteRun}
+use Rattle.range_core.specs.declared.range.dax_put.DaxPutBytes.{DaxPutBytes}
+use Rattle.range_core.specs.declared.sample.Sample.{Sample}
+
+-- What is asked of bytes written into sectors: an extent of a file that skips the page cache, so many bytes of an iov, a sample of the range, and blocks of which nothing is cached or lent
+pub record CanPutDax (r : RangeView) (seen : Sample) (from to : ℕ) (v : IovView) : Type 0 where
+  pub bytes : IsThrough r seen from to
+  pub room : HasNext v (to - from)
+  pub known : IsKnown r seen
+  pub uncached : All IsUncached r.cells
+
+-- how many of the blocks met are holes, which take sectors
+abbrev pub holes_met : RangeView → ℕ → ℕ → ℕ
+holes_met r from to = count_in is_empty r (from / r.geometry.block_size) (blocks_met r.geometry.block_size from to)
+
+-- each block of a run, of blocks the first of which has this number, has a whole sector
+abbrev pub AreFull : ByteRun → ℕ → List Cell → Type 0
+AreFull run first cells = (k : ℕ) (c : Cell) → k < run.blocks → slice_get cells (run.first - first + k) ≡ Some c → IsSomeAnd c.sector (λ s. length s.bytes ≡ run.size)
+
+-- a block of a run with its part of the bytes over its sector, which was made zeros where it was never written
+abbrev pub put : ByteRun → List ℕ → ℕ → Cell → Cell
+put run bytes k c = through (overlaid run.size run.from run.to bytes (run.first + k)) (made_mapped c)
+
+-- the same of a block that takes a sector first where it is a hole
+abbrev pub put_placed : ByteRun → List ℕ → ℕ → List Cell → List DeviceBlock → ℕ → Cell → Cell
+put_placed run bytes low cells sectors k c = put run bytes k (placed_at is_empty low cells sectors k c)
+
+-- the range once the bytes are in the sectors of the blocks met, of which holes took these: each block met has a stamp, and the cookie rose where the extent was not mapped
+abbrev pub after_dax_put : RangeView → Tag → Sample → ℕ → ℕ → List ℕ → List DeviceBlock → SeatView PoolEntry → SpaceClaims → RangeView
+after_dax_put r by seen from to bytes sectors seat space =
+    let run = run_between r.geometry.block_size from to in
+    record (with_stamps (with_each (put_placed run bytes (run.first - r.first) r.cells sectors) r run.first run.blocks) (stamps_from run.first run.blocks (done_by by))) { cookie = r.cookie + one_where (not (is_mapped seen.extent.kind)); seat = seat; space = space }
+
+-- The holes met were reserved and took these sectors, and the bytes are in the sectors of the blocks met
+pub record PutsDax (opening : PoolView) (before : RangeView) (by : Tag) (seen : Sample) (from to : ℕ) (bytes : List ℕ) (after : RangeView) : Type 0 where
+  pub sectors : List DeviceBlock
+  pub as_many : length sectors ≡ holes_met before from to
+  pub whole : All (HasSize before.geometry.block_size) sectors
+  pub state : after ≡ after_dax_put before by seen from to bytes sectors after.seat (with_taken (with_more before.space (holes_met before from to)) sectors)
+  pub promised : PoolPlace
+  pub reserved : TurnsFor (holes_met before from to) (ReservesAt opening (holes_met before from to) (Ok tt)) (place_of before) promised
+  pub took : TurnsFor (holes_met before from to) (TakesAt opening (holes_met before from to) sectors) promised (place_of after)
+
+-- why nothing was written: for what hinders; else for want of memory or of space, before any judgement; else for a judgement, which tells that it failed
+abbrev pub RefusesPut : Option EventFault → (Done → Type 0) → Type 0 → EventFault → Type 0
+RefusesPut (Some refusal) told same e = (e ≡ refusal) × same
+RefusesPut None told same fault.NoMemory = same
+RefusesPut None told same (fault.NoSpace wanted found) = same
+RefusesPut None told same (fault.Poison done) = (done.failed ≡ true) × told done
+RefusesPut None told same _ = ⊥
+
+-- what a refused write leaves: the range as it was, but for its seat where that had turns at the pool
+abbrev pub LeavesPut : PoolView → ℕ → EventFault → RangeView → RangeView → Type 0
+LeavesPut opening holes (fault.NoSpace wanted found) before after = (after ≡ at_seat before after.seat) × ReservesAt opening holes (Err (no_space wanted found)) (place_of before) (place_of after)
+LeavesPut opening holes (fault.Poison done) before after = (after ≡ at_seat before after.seat) × GivesUp opening holes (place_of before) (place_of after)
+LeavesPut opening holes _ before after = after ≡ before
+
+-- a judgement was made, and did not fail
+abbrev pub Passes : (Done → Type 0) → Type 0
+Passes told = (done : Done) × (done.failed ≡ false) × told done
+
+-- the bytes that such a turn has of its iov
+abbrev pub put_bytes : {R F : Type 0} → DaxPutBytes R F → List ℕ
+put_bytes change = next_bytes change.iov.now (change.to - change.from)
+
+-- The turn may begin: a judgement may be asked for, and the event's conditions hold of the range as it was opened, of its pool, and of what the seat has seen
+pub record MayPutDax {R F : Type 0} (may : F → ℕ → Type 0) (change : DaxPutBytes R F) (opening : RangeView) (history : List Entry) : Type 0 where
+  pub judge : (m : ℕ) → 0 < m → may change.judge m
+  pub bytes : IsThrough opening change.seen change.from change.to
+  pub room : HasNext change.iov.now (change.to - change.from)
+  pub given : WasGiven change.seen history
+  pub pool : opening.seat.cell ≡ (pool_cell change.space.now).cell
+
+-- It came about, and this is its entry
+pub record PutMade {R F : Type 0} (change : DaxPutBytes R F) (before after : RangeView) (claims : ClaimsView) (entry : Entry) : Type 0 where
+  pub made : dax_put_refusal before change.seen ≡ None
+  pub puts : PutsDax (pool_cell change.space.now).opening before change.by change.seen change.from change.to (put_bytes change) after
+  pub entry_is : entry ≡ record { caller = claims.caller; event = DaxPut change.by change.seen change.from change.to (put_bytes change); outcome = Took (pairs_taken is_empty before (change.from / before.geometry.block_size) (blocks_met before.geometry.block_size change.from change.to) puts.sectors) }
+
+-- It was refused
+pub record PutRefused {R F : Type 0} (step : F → ℕ → Done → F → Type 0) (change later : DaxPutBytes R F) (before after : RangeView) (claims : ClaimsView) (entry : Entry) (e : EventFault) : Type 0 where
+  pub refused : RefusesPut (dax_put_refusal before change.seen) (λ done. step change.judge (blocks_met before.geometry.block_size change.from change.to) done later.judge) (later.judge ≡ change.judge) e
+  pub leaves : LeavesPut (pool_cell change.space.now).opening (holes_met before change.from change.to) e before after
+  pub nothing : later.iov.now ≡ change.iov.now
+  pub entry_is : entry ≡ record { caller = claims.caller; event = DaxPut change.by change.seen change.from change.to (put_bytes change); outcome = Refused e }
+
+abbrev pub PutErr : {R F : Type 0} → (F → ℕ → Done → F → Type 0) → DaxPutBytes R F → DaxPutBytes R F → RangeView → RangeView → ClaimsView → Entry → Result (Unit {0}) EventFault → Type 0
+PutErr step change later before after claims entry answer = IfErr answer (PutRefused step change later before after claims entry)
+
+-- The turn wrote the iov's bytes into the sectors of the blocks met after one judgement of them, or was refused
+pub record PutDax {R F : Type 0} (step : F → ℕ → Done → F → Type 0) (change : DaxPutBytes R F) (before : RangeView) (claims : ClaimsView) (later : DaxPutBytes R F) (after : RangeView) (left : ClaimsView) (answer : Result (Unit {0}) EventFault) (entry : Entry) : Type 0 where
+  pub rt : later.rt ≡ change.rt
+  pub space : later.space ≡ change.space
+  pub by : later.by ≡ change.by
+  pub seen : later.seen ≡ change.seen
+  pub from : later.from ≡ change.from
+  pub to : later.to ≡ change.to
+  pub same_iov : later.iov.ghost_name ≡ change.iov.ghost_name
+  pub claims_are : left ≡ claims
+  pub ok : OnOk answer (PutMade change before after claims entry)
+  pub judged : OnOk answer (Passes (λ done. step change.judge (blocks_met before.geometry.block_size change.from change.to) done later.judge))
+  pub moved : OnOk answer (later.iov.now ≡ past change.iov.now (change.to - change.from))
+  pub err : PutErr step change later before after claims entry answer

@@ -1,0 +1,106 @@
+-- What the return of blocks that were lent for a caller's own pages does.
+use Rattle.std.specs.Prelude.{◌≡◌, ℕ, ◌+◌, ◌-◌, ◌<◌, Bool, true, false, ◌&&◌, ◌++◌, Option, Some, None, List, [], length, map, slice_get}
+use Rattle.arrayvec.specs.ArrayVec.{ArrayVec}
+use Rattle.fault_device.specs.declared.lane.Done.{Done}
+use Rattle.fault_device.specs.declared.part.Part.{Part}
+use Rattle.iob_base.specs.declared.sector.Page.{Page}
+use Rattle.iob_base.specs.declared.stamp.Op.{Op}
+use Rattle.iob_base.specs.declared.stamp.Op.TheVariants.{Read, Write}
+use Rattle.iob_base.specs.declared.stamp.Tag.{Tag}
+use Rattle.io_model.specs.declared.file.Kind.{Kind}
+use Rattle.io_model.specs.declared.file.Kind.TheVariants.{Hole}
+use Rattle.range_core.specs.ClaimsView.{ClaimsView, released}
+use Rattle.range_core.specs.EntryCounts.{is_write_back, one_where}
+use Rattle.range_core.specs.EntryStamps.{direct_stamps}
+use Rattle.range_core.specs.Kinds.{is_mapped, is_unwritten}
+use Rattle.range_core.specs.Lends.{home_of, written_cell}
+use Rattle.range_core.specs.OnRun.{on_each}
+use Rattle.range_core.specs.RangeTruth.{content_at}
+use Rattle.range_core.specs.RangeView.{RangeView}
+use Rattle.range_core.specs.Returning.{MayComeBack}
+use Rattle.range_core.specs.declared.cell.Cell.{Cell}
+use Rattle.range_core.specs.declared.entry.Entry.{Entry}
+use Rattle.range_core.specs.declared.entry.Event.TheVariants.{DirectBack}
+use Rattle.range_core.specs.declared.entry.Outcome.TheVariants.{Finished}
+use Rattle.range_core.specs.declared.lending.Held.{Held}
+use Rattle.range_core.specs.declared.lending.Lender.TheVariants.{Direct}
+use Rattle.range_core.specs.declared.lending.Lent.{Lent}
+use Rattle.range_core.specs.declared.range.direct.EndDirect.{EndDirect}
+
+-- the kind of the first block that a claim names
+abbrev pub kind_held : Option Held → Kind
+kind_held None = Hole
+kind_held (Some held) = held.kind
+
+-- the pages of what a claim names, as they were lent
+abbrev pub pages_held : Option Held → List Page
+pages_held None = []
+pages_held (Some held) = map (λ p. p.page) held.lent.value.parts.items
+
+-- a block is mapped where a caller's page was written to it
+abbrev pub marked_back : Op → Bool → Cell → Cell
+marked_back Write false c = written_cell c
+marked_back _ failed c = c
+
+-- the k-th of the blocks that come back with these parts: it has its sector again, and is mapped where it was written
+abbrev pub came_back : Op → Bool → List Part → ℕ → Cell → Cell
+came_back op failed parts k c = marked_back op failed (home_of parts k c)
+
+-- a write that failed has left something on the first of these blocks
+abbrev pub lands : Op → Kind → Bool
+lands Read kind = false
+lands Write kind = is_mapped kind
+
+-- the range after n blocks came back with these parts: each has its stamp, and the cookie rose where blocks of this kind were mapped
+abbrev pub after_direct_back : RangeView → Tag → Op → Kind → Lent → Done → RangeView
+after_direct_back r by op kind back done =
+    let n = length back.parts.items in
+    record r { cells = on_each (came_back op done.failed back.parts.items) 0 (back.block - r.first) n r.cells; log = r.log ++ direct_stamps by op back.block kind n done; cookie = r.cookie + one_where (is_unwritten kind && is_write_back op done.failed) }
+
+-- a transfer leaves each page its number, and a write its bytes too
+abbrev pub KeepsPages : Op → List Page → List Page → Type 0
+KeepsPages Read lent back = map (λ p. p.number) back ≡ map (λ p. p.number) lent
+KeepsPages Write lent back = back ≡ lent
+
+-- what comes back
+abbrev pub back_in : EndDirect → Lent
+back_in change = lent_in change.back
+  where
+    lent_in : Option Lent → Lent
+    lent_in None = record { ticket = 0; block = 0; parts = record { items = [] } }
+    lent_in (Some back) = back
+
+-- The turn may begin: what comes back was lent for the same call in the same direction
+pub record ReadyToReturn (change : EndDirect) (opening : RangeView) (claims : ClaimsView) : Type 0 where
+  pub back : Lent
+  pub back_is : change.back ≡ Some back
+  pub may : MayComeBack opening claims (Direct change.by change.op) change.op back change.done
+
+-- the pages of mapped blocks that landed in a read have the contents of these blocks
+abbrev pub ReadsContents : RangeView → List Entry → Op → Kind → ℕ → ℕ → List Page → Type 0
+ReadsContents opening history Read kind block landed pages =
+    (k : ℕ) (p : Page) → is_mapped kind ≡ true → k < landed → slice_get pages k ≡ Some p → p.bytes ≡ content_at opening history (block - opening.first + k)
+ReadsContents opening history Write kind block landed pages = Unit {0}
+
+-- a block is not uptodate
+pub record IsCold (c : Cell) : Type 0 where
+  pub page : c.page ≡ None
+  pub clean : c.dirty ≡ false
+
+abbrev pub back_entry : ClaimsView → EndDirect → Entry
+back_entry claims change = record {
+  caller = claims.caller;
+  event = DirectBack change.by change.op (back_in change).ticket (back_in change).block (kind_held claims.held) (map (λ p. p.bytes) (pages_held claims.held)) change.done;
+  outcome = Finished;
+}
+
+-- What the turn did: the sectors are home, and the pages came back in order
+pub record ReturnedDirectly (change later : EndDirect) (opening : RangeView) (history : List Entry) (before after : RangeView) (claims left : ClaimsView) (pages : ArrayVec Page) (entry : Entry) : Type 0 where
+  pub change_is : later ≡ record change { back = None }
+  pub value : after ≡ after_direct_back before change.by change.op (kind_held claims.held) (back_in change) change.done
+  pub cold : (k : ℕ) (c : Cell) → k < length pages.items → slice_get after.cells ((back_in change).block - after.first + k) ≡ Some c → IsCold c
+  pub claims_are : left ≡ released claims
+  pub pages_are : pages.items ≡ map (λ p. p.page) (back_in change).parts.items
+  pub kept : KeepsPages change.op (pages_held claims.held) pages.items
+  pub reads : ReadsContents opening history change.op (kind_held claims.held) (back_in change).block change.done.landed pages.items
+  pub entry_is : entry ≡ back_entry claims change

@@ -1,0 +1,11 @@
+-- Pages of the cache.
+use Rattle.std.specs.Prelude.{ℕ, List}
+use Rattle.iob_base.specs.declared.sector.Page.{Page}
+use Rattle.io_model.specs.Contents.{zeros}
+
+-- a page of the cache, which has no number of a caller's page, with these bytes, and one of zeros
+abbrev pub cache_page : List ℕ → Page
+cache_page bytes = record { number = 18446744073709551615; bytes = bytes }
+
+abbrev pub zero_page : ℕ → Page
+zero_page size = cache_page (zeros size)

@@ -1,0 +1,173 @@
+//! Zeros are laid over the sectors of a file that skips the page cache.
+ghost use Rattle.std.specs.Prelude.{◌≡◌, ℕ, ◌+◌, ◌-◌, ◌<◌, ◌≤◌, true, None, IfErr, IsSomeAnd, MatchResult, OnErr, OnOk, length, vec_len};
+ghost use Rattle.fault_device.specs.LaneView.{lane_seen};
+ghost use Rattle.fault_device.specs.Opening.{IsServed, Opening, Serves};
+ghost use Rattle.fault_device.specs.Transfer.{Tells};
+ghost use Rattle.range_core.specs.ByteRuns.{IsByteRun, run_between};
+ghost use Rattle.range_core.specs.DaxReads.{AreHomeIn};
+ghost use Rattle.range_core.specs.DaxZeros.{cleared_through, zeroed_through};
+ghost use Rattle.range_core.specs.Kinds.{is_mapped};
+ghost use Rattle.range_core.specs.OnRun.{on_each};
+
+use super::Range;
+use super::now::{ask, is_mapped_kind};
+use crate::cell::Cell;
+use crate::claims::Claims;
+use crate::dax_bytes::clear_sector;
+use crate::fault::EventFault;
+use crate::parts::{BlockPart, ByteRun, byte_run, part_of};
+use crate::sample::Sample;
+use crate::stamps::{add_stamps, stamp_done};
+use fault_device::{Done, Lane};
+use iob_base::Tag;
+use space_pool::SpacePool;
+use std::sync::Wait;
+use turn_cell::Change;
+
+fn clear_part(cell: &mut Cell, part: BlockPart)
+    requires { is_mapped cell.old.kind ≡ true → IsSomeAnd cell.old.sector (λ s. part.at + part.length ≤ length s.bytes) }
+    ensures { cell.new ≡ cleared_through part cell.old }
+{
+    if !is_mapped_kind(cell.kind) {
+        return;
+    }
+    let Some(sector) = &mut cell.sector else {
+        unreachable!()
+    };
+    clear_sector(sector, part);
+}
+
+/// Lays zeros over the sectors of the mapped blocks of a run. The blocks have the numbers from `first` on.
+fn clear_through(cells: &mut Vec<Cell>, first: u64, run: ByteRun)
+    requires run { IsByteRun run }
+    requires low { first ≤ run.first }
+    requires high { run.first + run.blocks ≤ first + vec_len cells.old }
+    requires ready { AreHomeIn run first cells.old.items }
+    ensures { cells.new.items ≡ on_each (zeroed_through run) 0 (run.first - first) run.blocks cells.old.items }
+{
+    let low = (run.first - first) as usize;
+    for k in 0..run.blocks {
+        clear_part(&mut cells[low + k], part_of(run, k));
+    }
+}
+
+impl Range {
+    ghost use Rattle.range_core.specs.DaxZeros.{CanZeroDax, after_dax_zero};
+    ghost use Rattle.range_core.specs.DirectNow.{IsServedBy, PassesNow, RefusesNow};
+    ghost use Rattle.range_core.specs.Refusals.{stale};
+    ghost use Rattle.range_core.specs.Spots.{blocks_met};
+
+    /// Lays zeros over the bytes from one place up to another, in the sectors of the sample's extent, and leaves a stamp
+    /// on each block that has some of them. Mapped blocks take one judgement of the lane. Blocks of other kinds read as
+    /// zeros already: they take none, and no block changes its kind, so nothing is asked of the pool.
+    ///
+    /// # Errors
+    ///
+    /// - `Stale` where the sample's cookie is not the range's.
+    /// - `NoMemory`, before any judgement.
+    /// - `Poison` exactly where the judgement failed.
+    ///
+    /// Nothing but the lane has changed then.
+    pub fn dax_zero<R: Wait>(
+        &mut self,
+        _rt: &R,
+        _space: &SpacePool,
+        by: Tag,
+        lane: &mut Lane,
+        seen: Sample,
+        from: u64,
+        to: u64,
+    ) -> Result<(), EventFault>
+        requires { CanZeroDax self.old seen from to }
+
+        // What is written and stamped, and what the lane was asked.
+        ensures made { OnOk result (stale self.old seen ≡ None) }
+        ensures state { OnOk result (self.new ≡ after_dax_zero self.old by from to) }
+        ensures lane { OnOk result (PassesNow (is_mapped seen.extent.kind)
+            (λ done. Tells (blocks_met self.old.geometry.block_size from to) (lane_seen count tells lane.old) done (lane_seen count tells lane.new))
+            (lane_seen count tells lane.new ≡ lane_seen count tells lane.old)) }
+
+        // Why it is refused, and what that leaves.
+        ensures refused { IfErr result (RefusesNow (stale self.old seen) (is_mapped seen.extent.kind)
+            (λ done. Tells (blocks_met self.old.geometry.block_size from to) (lane_seen count tells lane.old) done (lane_seen count tells lane.new))
+            (lane_seen count tells lane.new ≡ lane_seen count tells lane.old)) }
+        ensures unchanged { OnErr result (self.new ≡ self.old) }
+
+        ensures serves { (o : Opening) → Serves o (lane_seen count tells lane.old)
+            → MatchResult result (λ _. Serves o (lane_seen count tells lane.new)) (λ e. IsServedBy o e (lane_seen count tells lane.new)) }
+    {
+        let mut judge = |n: u32| -> Done
+            requires { 0 < n }
+            ensures tells { Tells n (lane_seen count tells lane.entry.now) result (lane_seen count tells lane.exit.now) }
+            ensures serves { (o : Opening) → Serves o (lane_seen count tells lane.entry.now) → IsServed o result (lane_seen count tells lane.exit.now) }
+        { lane.judge(n) };
+        self.zero_through(by, &mut judge, seen, from, to)
+    }
+
+    /// `dax_zero`, with any judgement of so many blocks.
+    fn zero_through<F: FnMut(u32) -> Done>(
+        &mut self,
+        by: Tag,
+        judge: &mut F,
+        seen: Sample,
+        from: u64,
+        to: u64,
+    ) -> Result<(), EventFault>
+        requires judge { (m : ℕ) → 0 < m → F.pre judge.old m }
+        requires can { CanZeroDax self.old seen from to }
+
+        // What is written and stamped, and what the judge was asked.
+        ensures made { OnOk result (stale self.old seen ≡ None) }
+        ensures state { OnOk result (self.new ≡ after_dax_zero self.old by from to) }
+        ensures judged { OnOk result (PassesNow (is_mapped seen.extent.kind)
+            (λ done. F.step judge.old (blocks_met self.old.geometry.block_size from to) done judge.new) (judge.new ≡ judge.old)) }
+
+        // Why it is refused, and what that leaves.
+        ensures refused { IfErr result (RefusesNow (stale self.old seen) (is_mapped seen.extent.kind)
+            (λ done. F.step judge.old (blocks_met self.old.geometry.block_size from to) done judge.new) (judge.new ≡ judge.old)) }
+        ensures unchanged { OnErr result (self.new ≡ self.old) }
+        ensures met { IsByteRun (run_between self.old.geometry.block_size from to) }
+    {
+        let run = byte_run(&self.geometry, from, to);
+        if seen.cookie != self.cookie {
+            return Err(EventFault::Stale {
+                sample: seen.cookie,
+                now: self.cookie,
+            });
+        }
+        let Ok(()) = self.log.reserve(run.blocks + self.cells.len()) else {
+            return Err(EventFault::NoMemory);
+        };
+        if let Err(done) = ask(judge, is_mapped_kind(seen.extent.kind), run.blocks as u32) {
+            return Err(EventFault::Poison { done });
+        }
+        clear_through(&mut self.cells, self.first, run);
+        add_stamps(&mut self.log, run.first, run.blocks, stamp_done(by));
+        Ok(())
+    }
+}
+
+/// The turn that lays zeros over sectors.
+#[derive(Drop)]
+pub struct DaxZeroBytes<F> {
+    pub by: Tag,
+    /// A judgement of so many blocks.
+    pub judge: F,
+    pub seen: Sample,
+    pub from: u64,
+    pub to: u64,
+}
+
+impl<F: FnMut(u32) -> Done> Change<Range> for DaxZeroBytes<F> {
+    ghost use Rattle.range_core.specs.DaxZeros.{MayZeroDax, ZeroedDax};
+
+    type Out = Result<(), EventFault>;
+
+    ghost ready = { λ change opening history _. MayZeroDax F.pre change opening history };
+
+    ghost does = { λ change _ _ before claims later after left out entry. ZeroedDax F.step change before claims later after left out entry };
+
+    fn apply(&mut self, value: &mut Range, _claims: &mut Claims) -> Result<(), EventFault> {
+        value.zero_through(self.by, &mut self.judge, self.seen, self.from, self.to)
+    }
+}
