@@ -1,4 +1,6 @@
-mod FreshSectors
+mod CallerLemmas
 mod CameBack
 mod Closing
+mod FreshSectors
 mod Holding
+mod SmallOpening

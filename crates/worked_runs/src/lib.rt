@@ -10,10 +10,24 @@ mod maps;
 #[cfg(test)]
 mod pool;
 #[cfg(test)]
+mod range_bytes;
+#[cfg(test)]
+mod range_caller;
+#[cfg(test)]
+mod range_ground;
+#[cfg(test)]
+mod range_loans;
+#[cfg(test)]
+mod range_steps;
+#[cfg(test)]
+mod ranges;
+#[cfg(test)]
 mod replays;
 #[cfg(test)]
 mod scripts;
 #[cfg(test)]
 mod small;
+#[cfg(test)]
+mod transfers;
 #[cfg(test)]
 mod turns;

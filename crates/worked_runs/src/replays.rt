@@ -150,15 +150,7 @@ const ROWS: [Row; 19] = [
         status: 64,
         written: b"",
     },
-    Row {
-        script: THREE_BLOCKS,
-        words: &[],
-        source_fails: &[],
-        sink_fails: &[],
-        transfers_fail: &[],
-        status: 0,
-        written: b"run 1\ncall 1 0 pread ok 26 fcfdfeff000102030405060708090a0b0c0d0e0feeeeeeeeeeee bios 1\nclose f ok 0 bios 0\njournal f 4 1\njournal f 5 1\njournal f 6 1\nmap f 4 4 mapped 2\nfree 4\nbios 1\nlane 0 ops 1 faults 0\nend\n",
-    },
+    // Two runs of one script: the transfer of the first is judged to fail, and that of the second is not.
     Row {
         script: THREE_BLOCKS,
         words: &[],
@@ -167,6 +159,15 @@ const ROWS: [Row; 19] = [
         transfers_fail: &[1],
         status: 1,
         written: b"run 1\ncall 1 0 pread err EIO lane 0 rose 0 1 bios 1\nclose f ok 0 bios 0\nmap f 4 4 mapped 2\nfree 4\nbios 1\nlane 0 ops 1 faults 1\nend\n",
+    },
+    Row {
+        script: THREE_BLOCKS,
+        words: &[],
+        source_fails: &[],
+        sink_fails: &[],
+        transfers_fail: &[],
+        status: 0,
+        written: b"run 1\ncall 1 0 pread ok 26 fcfdfeff000102030405060708090a0b0c0d0e0feeeeeeeeeeee bios 1\nclose f ok 0 bios 0\njournal f 4 1\njournal f 5 1\njournal f 6 1\nmap f 4 4 mapped 2\nfree 4\nbios 1\nlane 0 ops 1 faults 0\nend\n",
     },
     Row {
         script: WHOLE_BLOCKS,

@@ -1,8 +1,5 @@
 //! The small crates: the bits of a folio, a countdown, a lane with its fate, and bios.
-ghost use Rattle.std.specs.Prelude.{◌≡◌, ◌<◌, ◌≤◌, All, IsTrue, length};
-ghost use Rattle.std.specs.Bool.{OnTrue};
-ghost use Rattle.fault_device.specs.Transfer.{CanTransfer, IsWhole};
-
+use crate::transfers::can_transfer;
 use arrayvec::ArrayVec;
 use bio_pages::{Bio, run_bio};
 use fault_device::{Done, Lane, Listed, Part};
@@ -112,27 +109,6 @@ fn bio_of_three(alloc: Global, op: Op) -> Result<Bio<u64>, Fail> {
         parts,
         ticket: 9,
     })
-}
-
-fn are_whole(parts: &[Part]) -> bool
-    ensures { OnTrue result (All IsWhole parts.now) }
-{
-    parts
-        .iter()
-        .all(|part| part.page.bytes.len() == part.sector.bytes().len())
-}
-
-// Whether one transfer can move these parts.
-fn can_transfer(parts: &[Part]) -> bool
-    ensures { OnTrue result (CanTransfer parts.now) }
-{
-    if parts.is_empty() {
-        return false;
-    }
-    if parts.len() > 16 {
-        return false;
-    }
-    are_whole(parts)
 }
 
 fn run(rt: &impl Abort, lane: &mut Lane, bio: &mut Bio<u64>) -> Done {

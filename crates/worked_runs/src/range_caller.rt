@@ -1,0 +1,185 @@
+//! A caller at a range: its seat, the sample that it was given last, and what it was lent. A method makes one turn.
+ghost use Rattle.std.specs.Prelude.{◌≡◌, ◌^◌, ◌<◌, ◌≤◌, ◌+◌, ◌-◌, ◌/◌, Some, None};
+ghost use Rattle.turn_cell.specs.Seats.{cell_view, seat_claims, seat_view};
+ghost use Rattle.turn_cell.specs.Views.{first_seat};
+ghost use Rattle.range_core.specs.ClaimsView.{first_claims};
+ghost use Rattle.worked_runs.specs.SmallRanges.{Stands};
+
+use crate::range_ground::Ground;
+use io_model::{Extent, Kind};
+use iob_base::{Mode, Tag};
+use range_core::{
+    DropPages, EventFault, Lender, Lent, Look, NextCaller, Range, ReserveRun, Sample, UnreserveRun,
+};
+use std::alloc::Global;
+use std::process::Abort;
+use std::sync::Wait;
+use turn_cell::TurnSeat;
+
+/// A caller at a range.
+#[derive(Drop)]
+pub(crate) struct Caller<'a, R> {
+    pub(crate) rt: &'a R,
+    pub(crate) alloc: Global,
+    pub(crate) ground: &'a Ground,
+    pub(crate) seat: TurnSeat<Range>,
+    pub(crate) by: Tag,
+    pub(crate) sample: Option<Sample>,
+    pub(crate) loan: Option<(Lender, Lent)>,
+}
+
+/// Two callers at a range.
+pub(crate) fn two_callers<'a, R: Abort + Wait>(
+    rt: &'a R,
+    alloc: Global,
+    ground: &'a Ground,
+    mut seat: TurnSeat<Range>,
+) -> (Caller<'a, R>, Caller<'a, R>)
+    requires seat { seat_view seat ≡ first_seat (cell_view ground.now.cell).cell (2 ^ 63) }
+    requires claims { seat_claims seat ≡ first_claims }
+    ensures first { Stands result.0.ground.now.cell result.0.seat result.0.sample result.0.loan }
+    ensures second { Stands result.1.ground.now.cell result.1.seat result.1.sample result.1.loan }
+{
+    let mut cut = NextCaller {};
+    let other = ground.cell.split(&mut seat, 1, &mut cut);
+    let NextCaller {} = cut;
+    let first = Caller {
+        rt,
+        alloc,
+        ground,
+        seat,
+        by: Tag { caller: 0, call: 7 },
+        sample: None,
+        loan: None,
+    };
+    let second = Caller {
+        rt,
+        alloc,
+        ground,
+        seat: other,
+        by: Tag { caller: 1, call: 8 },
+        sample: None,
+        loan: None,
+    };
+    (first, second)
+}
+
+impl<'a, R: Abort + Wait> Caller<'a, R> {
+    /// Blocks of the range.
+    pub(crate) fn expect_run(&self, block: u64, blocks: u64)
+        ensures some { 0 < blocks }
+        ensures within { block + blocks ≤ 6 }
+    {
+        assert!(self.rt; 0 < blocks, "some blocks");
+        assert!(self.rt; block < 6, "a block of the range");
+        assert!(self.rt; blocks <= 6 - block, "blocks of the range");
+    }
+
+    /// Bytes of one folio of the range.
+    pub(crate) fn expect_bytes(&self, from: u64, to: u64)
+        ensures some { from < to }
+        ensures within { to ≤ 96 }
+        ensures folio { from / 64 ≡ (to - 1) / 64 }
+    {
+        assert!(self.rt; from < to, "some bytes");
+        assert!(self.rt; to <= 96, "bytes of the range");
+        assert_eq!(self.rt; from / 64, (to - 1) / 64, "bytes of one folio");
+    }
+
+    /// The file's bytes go through the page cache.
+    pub(crate) fn expect_cached(&self)
+        ensures { self.now.ground.now.mode ≡ Mode.Cached }
+    {
+        match self.ground.mode {
+            Mode::Cached => {}
+            Mode::Dax => panic!(self.rt; "a cached file"),
+        }
+    }
+
+    /// Nothing is lent to it.
+    pub(crate) fn expect_free(&self)
+        ensures { self.now.loan ≡ None }
+    {
+        match &self.loan {
+            None => {}
+            Some(_) => panic!(self.rt; "nothing is lent"),
+        }
+    }
+
+    // The first blocks of an extent, a hole.
+    fn expect_holes(&self, extent: Extent, blocks: u64)
+        ensures hole { extent.kind ≡ Kind.Hole }
+        ensures enough { blocks ≤ extent.length }
+    {
+        assert!(self.rt; blocks <= extent.length, "blocks of the extent");
+        match extent.kind {
+            Kind::Hole => {}
+            _ => panic!(self.rt; "a hole"),
+        }
+    }
+
+    /// The sample that it was given last.
+    pub(crate) fn seen(&self) -> Sample
+        ensures { self.now.sample ≡ Some result }
+    {
+        match self.sample {
+            Some(sample) => sample,
+            None => panic!(self.rt; "a sample was given"),
+        }
+    }
+
+    /// Takes a sample, and keeps it.
+    pub(crate) fn look(&mut self, block: u64, most: u64) -> Sample
+        requires stands { Stands self.old.ground.now.cell self.old.seat self.old.sample self.old.loan }
+        ensures stands { Stands self.new.ground.now.cell self.new.seat self.new.sample self.new.loan }
+    {
+        self.expect_run(block, 1);
+        let mut change = Look { block, most };
+        let sample = self.ground.cell.turn(self.rt, &mut self.seat, &mut change);
+        self.sample = Some(sample);
+        sample
+    }
+
+    /// Drops clean pages.
+    pub(crate) fn drop_clean(&mut self, block: u64, blocks: u64) -> u64
+        requires stands { Stands self.old.ground.now.cell self.old.seat self.old.sample self.old.loan }
+        ensures stands { Stands self.new.ground.now.cell self.new.seat self.new.sample self.new.loan }
+    {
+        self.expect_run(block, blocks);
+        let mut change = DropPages { block, blocks };
+        self.ground.cell.turn(self.rt, &mut self.seat, &mut change)
+    }
+
+    /// Asks for space for the first blocks of the sample, a hole. It keeps its sample.
+    pub(crate) fn reserve(&mut self, blocks: u64) -> Result<Sample, EventFault>
+        requires stands { Stands self.old.ground.now.cell self.old.seat self.old.sample self.old.loan }
+        ensures stands { Stands self.new.ground.now.cell self.new.seat self.new.sample self.new.loan }
+    {
+        let seen = self.seen();
+        self.expect_cached();
+        self.expect_holes(seen.extent, blocks);
+        self.expect_run(seen.extent.block, blocks);
+        let mut change = ReserveRun {
+            rt: self.rt,
+            space: &self.ground.space,
+            seen,
+            blocks,
+        };
+        self.ground.cell.turn(self.rt, &mut self.seat, &mut change)
+    }
+
+    /// Takes promises of space back.
+    pub(crate) fn unreserve(&mut self, block: u64, blocks: u64) -> u64
+        requires stands { Stands self.old.ground.now.cell self.old.seat self.old.sample self.old.loan }
+        ensures stands { Stands self.new.ground.now.cell self.new.seat self.new.sample self.new.loan }
+    {
+        self.expect_run(block, blocks);
+        let mut change = UnreserveRun {
+            rt: self.rt,
+            space: &self.ground.space,
+            block,
+            blocks,
+        };
+        self.ground.cell.turn(self.rt, &mut self.seat, &mut change)
+    }
+}
