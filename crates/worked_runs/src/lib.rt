@@ -14,11 +14,21 @@ mod range_bytes;
 #[cfg(test)]
 mod range_caller;
 #[cfg(test)]
+mod range_dax;
+#[cfg(test)]
 mod range_ground;
 #[cfg(test)]
 mod range_loans;
 #[cfg(test)]
+mod range_returns;
+#[cfg(test)]
+mod range_runs;
+#[cfg(test)]
 mod range_steps;
+#[cfg(test)]
+mod range_texts;
+#[cfg(test)]
+mod range_through;
 #[cfg(test)]
 mod ranges;
 #[cfg(test)]

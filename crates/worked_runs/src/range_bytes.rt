@@ -4,15 +4,15 @@ ghost use Rattle.range_core.specs.Kinds.{is_hole};
 ghost use Rattle.worked_runs.specs.SmallRanges.{IsBuffer, Stands};
 
 use crate::range_caller::Caller;
-use io_model::{Extent, Kind};
+use io_model::Kind;
 use iov_iter::IovIter;
-use range_core::{EventFault, FetchBytes, StoreBytes};
+use range_core::{EventFault, FetchBytes, StoreBytes, StoreZeroBytes};
 use std::alloc::{AllocError, Global};
 use std::process::Abort;
 use std::sync::Wait;
 
-// The caller's memory, with these bytes first.
-fn buffer(alloc: Global, bytes: &[u8]) -> Result<IovIter, AllocError>
+/// The caller's memory, with these bytes first.
+pub(crate) fn buffer(alloc: Global, bytes: &[u8]) -> Result<IovIter, AllocError>
     requires { length bytes.now ≤ 96 }
     ensures start { IfOk result (λ iov. iov.place ≡ 0) }
     ensures buffer { IfOk result (λ iov. IsBuffer iov) }
@@ -22,8 +22,8 @@ fn buffer(alloc: Global, bytes: &[u8]) -> Result<IovIter, AllocError>
     Ok(iov)
 }
 
-// A copy of the first bytes.
-fn first_bytes(alloc: Global, iov: &IovIter, n: u64) -> Result<Vec<u8>, AllocError>
+/// A copy of the first bytes.
+pub(crate) fn first_bytes(alloc: Global, iov: &IovIter, n: u64) -> Result<Vec<u8>, AllocError>
     requires few { n ≤ 96 }
     requires buffer { IsBuffer iov.now }
 {
@@ -43,7 +43,7 @@ impl<'a, R: Abort + Wait> Caller<'a, R> {
         ensures some { from < to }
     {
         self.expect_cached();
-        self.expect_bytes(from, to);
+        self.expect_folio(from, to);
         let _ = iov.count();
         let mut change = FetchBytes {
             by: self.by,
@@ -70,19 +70,6 @@ impl<'a, R: Abort + Wait> Caller<'a, R> {
         }
     }
 
-    // Bytes of blocks of an extent.
-    fn expect_covered(&self, extent: Extent, from: u64, to: u64)
-        requires { from < to }
-        ensures low { extent.block ≤ from / 16 }
-        ensures high { (to - 1) / 16 < extent.block + extent.length }
-    {
-        assert!(self.rt; extent.block <= from / 16, "bytes of the extent");
-        assert!(self.rt;
-            (to - 1) / 16 - extent.block < extent.length,
-            "bytes of the extent"
-        );
-    }
-
     // Blocks that are no holes.
     fn expect_space(&self, kind: Kind)
         ensures { is_hole kind ≡ false }
@@ -102,7 +89,7 @@ impl<'a, R: Abort + Wait> Caller<'a, R> {
     {
         let seen = self.seen();
         self.expect_cached();
-        self.expect_bytes(from, to);
+        self.expect_folio(from, to);
         self.expect_covered(seen.extent, from, to);
         self.expect_space(seen.extent.kind);
         let _ = iov.count();
@@ -129,5 +116,23 @@ impl<'a, R: Abort + Wait> Caller<'a, R> {
         assert!(self.rt; from <= 96, "bytes of the range");
         let mut iov = buffer(self.alloc, bytes)?;
         Ok(self.store_turn(from, from + bytes.len() as u64, &mut iov))
+    }
+
+    /// Lays zeros over blocks of the sample.
+    pub(crate) fn store_zeros(&mut self, from: u64, to: u64) -> Result<(), EventFault>
+        requires stands { Stands self.old.ground.now.cell self.old.seat self.old.sample self.old.loan }
+        ensures stands { Stands self.new.ground.now.cell self.new.seat self.new.sample self.new.loan }
+    {
+        let seen = self.seen();
+        self.expect_cached();
+        self.expect_folio(from, to);
+        self.expect_covered(seen.extent, from, to);
+        let mut change = StoreZeroBytes {
+            by: self.by,
+            seen,
+            from,
+            to,
+        };
+        self.ground.cell.turn(self.rt, &mut self.seat, &mut change)
     }
 }

@@ -9,7 +9,8 @@ use crate::range_ground::Ground;
 use io_model::{Extent, Kind};
 use iob_base::{Mode, Tag};
 use range_core::{
-    DropPages, EventFault, Lender, Lent, Look, NextCaller, Range, ReserveRun, Sample, UnreserveRun,
+    AttachRun, DropPages, EventFault, Lender, Lent, Look, NextCaller, PreallocateRun, Range,
+    ReserveRun, Sample, UnreserveRun, WipeRun,
 };
 use std::alloc::Global;
 use std::process::Abort;
@@ -75,15 +76,36 @@ impl<'a, R: Abort + Wait> Caller<'a, R> {
         assert!(self.rt; blocks <= 6 - block, "blocks of the range");
     }
 
-    /// Bytes of one folio of the range.
+    /// Bytes of the range.
     pub(crate) fn expect_bytes(&self, from: u64, to: u64)
+        ensures some { from < to }
+        ensures within { to ≤ 96 }
+    {
+        assert!(self.rt; from < to, "some bytes");
+        assert!(self.rt; to <= 96, "bytes of the range");
+    }
+
+    /// Bytes of one folio of the range.
+    pub(crate) fn expect_folio(&self, from: u64, to: u64)
         ensures some { from < to }
         ensures within { to ≤ 96 }
         ensures folio { from / 64 ≡ (to - 1) / 64 }
     {
-        assert!(self.rt; from < to, "some bytes");
-        assert!(self.rt; to <= 96, "bytes of the range");
+        self.expect_bytes(from, to);
         assert_eq!(self.rt; from / 64, (to - 1) / 64, "bytes of one folio");
+    }
+
+    /// Bytes of blocks of an extent.
+    pub(crate) fn expect_covered(&self, extent: Extent, from: u64, to: u64)
+        requires { from < to }
+        ensures low { extent.block ≤ from / 16 }
+        ensures high { (to - 1) / 16 < extent.block + extent.length }
+    {
+        assert!(self.rt; extent.block <= from / 16, "bytes of the extent");
+        assert!(self.rt;
+            (to - 1) / 16 - extent.block < extent.length,
+            "bytes of the extent"
+        );
     }
 
     /// The file's bytes go through the page cache.
@@ -103,6 +125,16 @@ impl<'a, R: Abort + Wait> Caller<'a, R> {
         match &self.loan {
             None => {}
             Some(_) => panic!(self.rt; "nothing is lent"),
+        }
+    }
+
+    /// The file's bytes skip the page cache.
+    pub(crate) fn expect_dax(&self)
+        ensures { self.now.ground.now.mode ≡ Mode.Dax }
+    {
+        match self.ground.mode {
+            Mode::Cached => panic!(self.rt; "a file that skips the page cache"),
+            Mode::Dax => {}
         }
     }
 
@@ -177,6 +209,52 @@ impl<'a, R: Abort + Wait> Caller<'a, R> {
         let mut change = UnreserveRun {
             rt: self.rt,
             space: &self.ground.space,
+            block,
+            blocks,
+        };
+        self.ground.cell.turn(self.rt, &mut self.seat, &mut change)
+    }
+
+    /// Gives sectors to dirty blocks to which space is promised.
+    pub(crate) fn attach(&mut self, block: u64, blocks: u64) -> Result<u64, EventFault>
+        requires stands { Stands self.old.ground.now.cell self.old.seat self.old.sample self.old.loan }
+        ensures stands { Stands self.new.ground.now.cell self.new.seat self.new.sample self.new.loan }
+    {
+        self.expect_run(block, blocks);
+        let mut change = AttachRun {
+            rt: self.rt,
+            space: &self.ground.space,
+            block,
+            blocks,
+        };
+        self.ground.cell.turn(self.rt, &mut self.seat, &mut change)
+    }
+
+    /// Gives sectors to blocks that have none.
+    pub(crate) fn preallocate(&mut self, block: u64, blocks: u64) -> Result<u64, EventFault>
+        requires stands { Stands self.old.ground.now.cell self.old.seat self.old.sample self.old.loan }
+        ensures stands { Stands self.new.ground.now.cell self.new.seat self.new.sample self.new.loan }
+    {
+        self.expect_run(block, blocks);
+        let mut change = PreallocateRun {
+            rt: self.rt,
+            space: &self.ground.space,
+            block,
+            blocks,
+        };
+        self.ground.cell.turn(self.rt, &mut self.seat, &mut change)
+    }
+
+    /// Makes holes of blocks.
+    pub(crate) fn wipe(&mut self, block: u64, blocks: u64) -> Result<u64, EventFault>
+        requires stands { Stands self.old.ground.now.cell self.old.seat self.old.sample self.old.loan }
+        ensures stands { Stands self.new.ground.now.cell self.new.seat self.new.sample self.new.loan }
+    {
+        self.expect_run(block, blocks);
+        let mut change = WipeRun {
+            rt: self.rt,
+            space: &self.ground.space,
+            by: self.by,
             block,
             blocks,
         };

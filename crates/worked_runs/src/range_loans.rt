@@ -15,17 +15,36 @@ use io_model::{Extent, Kind};
 use iob_base::{Items, Op, Page, Tag};
 use iov_iter::Pages;
 use range_core::{
-    Direct, DirectRefused, EndDirect, EventFault, FillPages, LendCold, LendPages, Lender, Lent,
-    ReadNow,
+    Direct, DirectRefused, EndDirect, EndWriteback, EventFault, FillPages, LendCold, LendDirty,
+    LendPages, Lender, Lent, ReadNow,
 };
 use std::alloc::{AllocError, Global};
 use std::process::Abort;
 use std::sync::Wait;
 
-/// What came back: what the transfer did, and the caller's own pages.
+/// What came of a loan: a ticket with so many blocks from one on, or a caller's own pages, of zeros now.
+#[derive(Drop)]
+pub(crate) enum Loan {
+    Ticket {
+        ticket: u64,
+        block: u64,
+        blocks: usize,
+    },
+    Zeros(Pages),
+}
+
+/// So many blocks were read into the first of these pages.
+#[derive(Drop)]
+pub(crate) struct Now {
+    pub(crate) blocks: u64,
+    pub(crate) pages: Pages,
+}
+
+/// What came back: what the transfer did, how many dirty blocks were written, and the caller's own pages.
 #[derive(Drop)]
 pub(crate) struct Back {
     pub(crate) done: Done,
+    pub(crate) written: Option<u64>,
     pub(crate) pages: Option<Pages>,
 }
 
@@ -39,8 +58,8 @@ fn page_of(alloc: Global, number: u64, fill: u8) -> Result<Page, AllocError>
     })
 }
 
-/// Pages that are filled with these bytes, one each.
-pub(crate) fn pages_of(alloc: Global, fills: &[u8]) -> Result<Pages, AllocError>
+// Pages that are filled with these bytes, one each.
+fn pages_of(alloc: Global, fills: &[u8]) -> Result<Pages, AllocError>
     requires { length fills.now ≤ 6 }
     ensures count { IfOk result (λ pages. array_vec_len pages ≡ length fills.now) }
     ensures whole { IfOk result (λ pages. All (IsWholePage 16) pages.items) }
@@ -50,6 +69,14 @@ pub(crate) fn pages_of(alloc: Global, fills: &[u8]) -> Result<Pages, AllocError>
         pages.push(page_of(alloc, i as u64, fills[i])?);
     }
     Ok(pages)
+}
+
+fn ticket_of(lent: &Lent) -> Loan {
+    Loan::Ticket {
+        ticket: lent.ticket,
+        block: lent.block,
+        blocks: lent.parts.len(),
+    }
 }
 
 // The transfer of what was lent.
@@ -82,7 +109,7 @@ impl<'a, R: Abort + Wait> Caller<'a, R> {
     }
 
     /// Asks for blocks to be read into the cache, and keeps what is lent.
-    pub(crate) fn lend_cold(&mut self, block: u64, blocks: u64) -> Result<(), EventFault>
+    pub(crate) fn lend_cold(&mut self, block: u64, blocks: u64) -> Result<Loan, EventFault>
         requires stands { Stands self.old.ground.now.cell self.old.seat self.old.sample self.old.loan }
         ensures stands { Stands self.new.ground.now.cell self.new.seat self.new.sample self.new.loan }
     {
@@ -93,8 +120,28 @@ impl<'a, R: Abort + Wait> Caller<'a, R> {
         match self.ground.cell.turn(self.rt, &mut self.seat, &mut change) {
             Ok(lent) => {
                 self.expect_loan(&lent);
+                let loan = ticket_of(&lent);
                 self.loan = Some((Lender::Reading, lent));
-                Ok(())
+                Ok(loan)
+            }
+            Err(fault) => Err(fault),
+        }
+    }
+
+    /// Asks for dirty blocks to be written, and keeps what is lent.
+    pub(crate) fn lend_dirty(&mut self, block: u64, blocks: u64) -> Result<Loan, EventFault>
+        requires stands { Stands self.old.ground.now.cell self.old.seat self.old.sample self.old.loan }
+        ensures stands { Stands self.new.ground.now.cell self.new.seat self.new.sample self.new.loan }
+    {
+        self.expect_run(block, blocks);
+        self.expect_free();
+        let mut change = LendDirty { block, blocks };
+        match self.ground.cell.turn(self.rt, &mut self.seat, &mut change) {
+            Ok(lent) => {
+                self.expect_loan(&lent);
+                let loan = ticket_of(&lent);
+                self.loan = Some((Lender::Writeback, lent));
+                Ok(loan)
             }
             Err(fault) => Err(fault),
         }
@@ -126,14 +173,8 @@ impl<'a, R: Abort + Wait> Caller<'a, R> {
         }
     }
 
-    /// Asks for blocks of the sample for these pages. It keeps what is lent, and
-    /// answers pages of zeros.
-    pub(crate) fn lend_direct(
-        &mut self,
-        op: Op,
-        block: u64,
-        pages: Pages,
-    ) -> Result<Option<Pages>, EventFault>
+    // The turn that asks for blocks of the sample for these pages. What is lent is kept.
+    fn lend_pages(&mut self, op: Op, block: u64, pages: Pages) -> Result<Loan, EventFault>
         requires stands { Stands self.old.ground.now.cell self.old.seat self.old.sample self.old.loan }
         requires whole { All (IsWholePage 16) pages.items }
         ensures stands { Stands self.new.ground.now.cell self.new.seat self.new.sample self.new.loan }
@@ -155,12 +196,28 @@ impl<'a, R: Abort + Wait> Caller<'a, R> {
         match self.ground.cell.turn(self.rt, &mut self.seat, &mut change) {
             Ok(Direct::Lent(lent)) => {
                 self.expect_loan(&lent);
+                let loan = ticket_of(&lent);
                 self.loan = Some((Lender::Direct { by: self.by, op }, lent));
-                Ok(None)
+                Ok(loan)
             }
-            Ok(Direct::Zeros(pages)) => Ok(Some(pages)),
+            Ok(Direct::Zeros(pages)) => Ok(Loan::Zeros(pages)),
             Err(DirectRefused { fault, pages: _ }) => Err(fault),
         }
+    }
+
+    /// Asks for blocks of the sample for pages of its own, which are filled with these bytes, and keeps what is lent.
+    pub(crate) fn lend_direct(
+        &mut self,
+        op: Op,
+        block: u64,
+        fills: &[u8],
+    ) -> Result<Result<Loan, EventFault>, AllocError>
+        requires stands { Stands self.old.ground.now.cell self.old.seat self.old.sample self.old.loan }
+        ensures stands { Stands self.new.ground.now.cell self.new.seat self.new.sample self.new.loan }
+    {
+        assert!(self.rt; fills.len() <= 6, "pages for blocks of the range");
+        let pages = pages_of(self.alloc, fills)?;
+        Ok(self.lend_pages(op, block, pages))
     }
 
     // The turn that brings blocks back which were lent for a read into the cache, after the read.
@@ -176,6 +233,25 @@ impl<'a, R: Abort + Wait> Caller<'a, R> {
         };
         self.ground.cell.turn(self.rt, &mut self.seat, &mut change);
         done
+    }
+
+    // The turn that brings dirty blocks back, after the write.
+    fn write_back(&mut self, lane: &mut Lane, mut back: Lent) -> Back
+        requires free { self.old.loan ≡ None }
+        requires stands { Stands self.old.ground.now.cell self.old.seat self.old.sample (Some (Lender.Writeback, back)) }
+        ensures stands { Stands self.new.ground.now.cell self.new.seat self.new.sample self.new.loan }
+    {
+        let done = carry(lane, Op::Write, &mut back);
+        let mut change = EndWriteback {
+            back: Some(back),
+            done,
+        };
+        let written = self.ground.cell.turn(self.rt, &mut self.seat, &mut change);
+        Back {
+            done,
+            written: Some(written),
+            pages: None,
+        }
     }
 
     // The turn that brings blocks back which were lent with pages of its own, after the transfer.
@@ -194,6 +270,7 @@ impl<'a, R: Abort + Wait> Caller<'a, R> {
         let pages = self.ground.cell.turn(self.rt, &mut self.seat, &mut change);
         Back {
             done,
+            written: None,
             pages: Some(pages),
         }
     }
@@ -209,15 +286,16 @@ impl<'a, R: Abort + Wait> Caller<'a, R> {
         match lender {
             Lender::Reading => Back {
                 done: self.fill_back(lane, back),
+                written: None,
                 pages: None,
             },
-            Lender::Writeback => panic!(self.rt; "nothing is lent for writeback"),
+            Lender::Writeback => self.write_back(lane, back),
             Lender::Direct { by, op } => self.direct_back(lane, by, op, back),
         }
     }
 
-    /// Reads blocks past the page cache, inside one turn.
-    pub(crate) fn read_now(
+    // The turn that reads blocks past the page cache.
+    fn read_turn(
         &mut self,
         lane: &mut Lane,
         block: u64,
@@ -239,5 +317,23 @@ impl<'a, R: Abort + Wait> Caller<'a, R> {
             pages,
         };
         self.ground.cell.turn(self.rt, &mut self.seat, &mut change)
+    }
+
+    /// Reads blocks past the page cache, inside one turn, into pages of its own, which are filled with these bytes.
+    pub(crate) fn read_now(
+        &mut self,
+        lane: &mut Lane,
+        block: u64,
+        fills: &[u8],
+    ) -> Result<Result<Now, EventFault>, AllocError>
+        requires stands { Stands self.old.ground.now.cell self.old.seat self.old.sample self.old.loan }
+        ensures stands { Stands self.new.ground.now.cell self.new.seat self.new.sample self.new.loan }
+    {
+        assert!(self.rt; fills.len() <= 6, "pages for blocks of the range");
+        let mut pages = pages_of(self.alloc, fills)?;
+        match self.read_turn(lane, block, &mut pages) {
+            Ok(blocks) => Ok(Ok(Now { blocks, pages })),
+            Err(fault) => Ok(Err(fault)),
+        }
     }
 }

@@ -1,131 +1,40 @@
-//! What callers ask of a range, step by step, and what they are answered, as text.
+//! What callers ask of a range, step by step.
 ghost use Rattle.worked_runs.specs.SmallRanges.{Stands};
 
 use crate::range_caller::Caller;
-use crate::range_loans::{Back, pages_of};
-use fault_device::{Done, Lane};
-use io_model::{Extent, Kind};
+use crate::range_texts::Told;
+use fault_device::Lane;
 use iob_base::Op;
-use iov_iter::Pages;
-use range_core::{EventFault, Lender, Lent, Sample};
-use std::alloc::{AllocError, Global};
+use std::alloc::AllocError;
 use std::process::Abort;
 use std::sync::Wait;
 
-/// One turn of a caller. Where a sample is needed it is the one that the caller was given last by a look.
+/// One turn of a caller, over a run of blocks (the first and how many), bytes from one place up to another, or bytes from
+/// one place on. Where a sample is needed it is the one that a look has given the caller last.
 #[derive(Clone, Copy)]
 pub(crate) enum Step {
-    /// A block, and how many blocks at most.
     Look(u64, u64),
     Drop(u64, u64),
+    /// The first blocks of the sample.
     Reserve(u64),
     Unreserve(u64, u64),
-    /// Bytes from one place up to another.
+    Attach(u64, u64),
+    Preallocate(u64, u64),
+    Wipe(u64, u64),
     Fetch(u64, u64),
     Store(u64, &'static [u8]),
+    StoreZeros(u64, u64),
     LendCold(u64, u64),
+    LendDirty(u64, u64),
+    /// A page for each block from one on, filled with these bytes.
     LendDirect(Op, u64, &'static [u8]),
     /// The transfer of what was lent, and its return.
     Back,
+    /// The same pages.
     ReadNow(u64, &'static [u8]),
-}
-
-// Bytes as text: zeros are dots, and those that cannot be shown are `~`.
-fn add_bytes(text: &mut String, bytes: &[u8]) -> Result<(), AllocError> {
-    for byte in bytes {
-        let shown = match *byte {
-            0 => '.',
-            b'!'..=b'z' => char::from(*byte),
-            _ => '~',
-        };
-        text.push(shown)?;
-    }
-    Ok(())
-}
-
-fn bytes_text(alloc: Global, bytes: &[u8]) -> Result<String, AllocError> {
-    let mut text = String::new(alloc);
-    add_bytes(&mut text, bytes)?;
-    Ok(text)
-}
-
-// The bytes of pages, with a bar before each.
-fn add_pages(text: &mut String, pages: &Pages) -> Result<(), AllocError> {
-    for page in pages.as_slice() {
-        text.push_str(" | ")?;
-        add_bytes(text, page.bytes.as_slice())?;
-    }
-    Ok(())
-}
-
-fn kind_text(alloc: Global, kind: Kind) -> Result<String, AllocError> {
-    match kind {
-        Kind::Hole => format!(in alloc; "hole"),
-        Kind::Delalloc => format!(in alloc; "delalloc"),
-        Kind::Unwritten(d) => format!(in alloc; "unwritten {d}"),
-        Kind::Mapped(d) => format!(in alloc; "mapped {d}"),
-    }
-}
-
-fn sample_text(alloc: Global, sample: &Sample) -> Result<String, AllocError> {
-    let Sample {
-        cookie,
-        errors,
-        extent,
-    } = *sample;
-    let Extent {
-        block,
-        length,
-        kind,
-    } = extent;
-    let kind = kind_text(alloc, kind)?;
-    format!(in alloc; "cookie {cookie}, errors {errors}, {block}+{length} {kind}")
-}
-
-fn fault_text(alloc: Global, fault: EventFault) -> Result<String, AllocError> {
-    format!(in alloc; "{fault:?}")
-}
-
-fn loan_text(alloc: Global, loan: &Option<(Lender, Lent)>) -> Result<String, AllocError> {
-    match loan {
-        Some((_, lent)) => {
-            let Lent {
-                ticket,
-                block,
-                parts,
-            } = lent;
-            let n = parts.len();
-            format!(in alloc; "ticket {ticket}, {block}+{n}")
-        }
-        None => format!(in alloc; "nothing"),
-    }
-}
-
-fn back_text(alloc: Global, back: &Back) -> Result<String, AllocError> {
-    let Done {
-        landed,
-        blocks,
-        failed,
-        ..
-    } = back.done;
-    let came = if failed { "failed" } else { "done" };
-    let mut text = format!(in alloc; "{came}, {landed} of {blocks}")?;
-    if let Some(pages) = &back.pages {
-        add_pages(&mut text, pages)?;
-    }
-    Ok(text)
-}
-
-fn zeros_text(alloc: Global, pages: &Pages) -> Result<String, AllocError> {
-    let mut text = String::from_str(alloc, "read")?;
-    add_pages(&mut text, pages)?;
-    Ok(text)
-}
-
-fn read_text(alloc: Global, n: u64, pages: &Pages) -> Result<String, AllocError> {
-    let mut text = format!(in alloc; "read {n}")?;
-    add_pages(&mut text, pages)?;
-    Ok(text)
+    DaxGet(u64, u64),
+    DaxPut(u64, &'static [u8]),
+    DaxZero(u64, u64),
 }
 
 impl<'a, R: Abort + Wait> Caller<'a, R> {
@@ -136,48 +45,24 @@ impl<'a, R: Abort + Wait> Caller<'a, R> {
     {
         let alloc = self.alloc;
         match step {
-            Step::Look(block, most) => sample_text(alloc, &self.look(block, most)),
-            Step::Drop(block, blocks) => {
-                let n = self.drop_clean(block, blocks);
-                format!(in alloc; "{n}")
-            }
-            Step::Reserve(blocks) => match self.reserve(blocks) {
-                Ok(sample) => sample_text(alloc, &sample),
-                Err(fault) => fault_text(alloc, fault),
-            },
-            Step::Unreserve(block, blocks) => {
-                let n = self.unreserve(block, blocks);
-                format!(in alloc; "{n}")
-            }
-            Step::Fetch(from, to) => match self.fetch(from, to)? {
-                Ok(bytes) => bytes_text(alloc, &bytes),
-                Err(fault) => fault_text(alloc, fault),
-            },
-            Step::Store(from, bytes) => match self.store(from, bytes)? {
-                Ok(()) => String::from_str(alloc, "stored"),
-                Err(fault) => fault_text(alloc, fault),
-            },
-            Step::LendCold(block, blocks) => match self.lend_cold(block, blocks) {
-                Ok(()) => loan_text(alloc, &self.loan),
-                Err(fault) => fault_text(alloc, fault),
-            },
-            Step::LendDirect(op, block, fills) => {
-                assert!(self.rt; fills.len() <= 6, "pages for blocks of the range");
-                match self.lend_direct(op, block, pages_of(alloc, fills)?) {
-                    Ok(Some(pages)) => zeros_text(alloc, &pages),
-                    Ok(None) => loan_text(alloc, &self.loan),
-                    Err(fault) => fault_text(alloc, fault),
-                }
-            }
-            Step::Back => back_text(alloc, &self.bring_back(lane)),
-            Step::ReadNow(block, fills) => {
-                assert!(self.rt; fills.len() <= 6, "pages for blocks of the range");
-                let mut pages = pages_of(alloc, fills)?;
-                match self.read_now(lane, block, &mut pages) {
-                    Ok(n) => read_text(alloc, n, &pages),
-                    Err(fault) => fault_text(alloc, fault),
-                }
-            }
+            Step::Look(block, most) => self.look(block, most).told(alloc),
+            Step::Drop(block, blocks) => self.drop_clean(block, blocks).told(alloc),
+            Step::Reserve(blocks) => self.reserve(blocks).told(alloc),
+            Step::Unreserve(block, blocks) => self.unreserve(block, blocks).told(alloc),
+            Step::Attach(block, blocks) => self.attach(block, blocks).told(alloc),
+            Step::Preallocate(block, blocks) => self.preallocate(block, blocks).told(alloc),
+            Step::Wipe(block, blocks) => self.wipe(block, blocks).told(alloc),
+            Step::Fetch(from, to) => self.fetch(from, to)?.told(alloc),
+            Step::Store(from, bytes) => self.store(from, bytes)?.told(alloc),
+            Step::StoreZeros(from, to) => self.store_zeros(from, to).told(alloc),
+            Step::LendCold(block, blocks) => self.lend_cold(block, blocks).told(alloc),
+            Step::LendDirty(block, blocks) => self.lend_dirty(block, blocks).told(alloc),
+            Step::LendDirect(op, block, fills) => self.lend_direct(op, block, fills)?.told(alloc),
+            Step::Back => self.bring_back(lane).told(alloc),
+            Step::ReadNow(block, fills) => self.read_now(lane, block, fills)?.told(alloc),
+            Step::DaxGet(from, to) => self.dax_get(lane, from, to)?.told(alloc),
+            Step::DaxPut(from, bytes) => self.dax_put(lane, from, bytes)?.told(alloc),
+            Step::DaxZero(from, to) => self.dax_zero(lane, from, to).told(alloc),
         }
     }
 }

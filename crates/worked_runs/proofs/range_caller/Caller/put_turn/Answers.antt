@@ -1,6 +1,6 @@
 use Rattle.turn_cell.specs.Seats.{seat_view}
 use Rattle.worked_runs.proofs.CallerLemmas.{GoesOn, goes_on}
-use Rattle.worked_runs.proofs.range_caller.Caller.read_now.Goals as goal
+use Rattle.worked_runs.proofs.range_caller.Caller.put_turn.Goals as goal
 
 pub returns : goal.returns
 returns g c =

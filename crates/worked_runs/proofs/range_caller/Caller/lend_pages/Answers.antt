@@ -1,6 +1,6 @@
 use Rattle.turn_cell.specs.Seats.{seat_view}
 use Rattle.worked_runs.proofs.CallerLemmas.{GoesOn, goes_on, small_lies, takes}
-use Rattle.worked_runs.proofs.range_caller.Caller.lend_direct.Goals as goal
+use Rattle.worked_runs.proofs.range_caller.Caller.lend_pages.Goals as goal
 
 pub returns-in-Ok-Lent : goal.returns-in-Ok-Lent
 returns-in-Ok-Lent g c =
