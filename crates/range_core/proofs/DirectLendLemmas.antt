@@ -1,8 +1,9 @@
 -- What is true of blocks that are lent for a caller's own pages.
-use Rattle.std.proofs.Common.{◌≡◌, ℕ, ◌+◌, ◌-◌, ◌<◌, ◌≤◌, Bool, true, false, not, ◌&&◌, ◌||◌, Option, Some, None, IsSome, List, [], length, append-nil, refl, sym, ◌∙◌, ap, subst, arith}
+use Rattle.std.proofs.Common.{◌≡◌, ℕ, ◌+◌, ◌-◌, ◌<◌, ◌≤◌, Bool, true, false, not, ◌&&◌, ◌||◌, Option, Some, None, IsSome, List, [], length, get_or, append-nil, refl, sym, ◌∙◌, ap, subst, arith}
 use Rattle.std.specs.Prelude.{IfSome, IsSomeAnd, IsTrue, max, slice_get, unwrap_or}
 use Rattle.std.proofs.lemmas.Bool.{eqb-true}
 use Rattle.std.proofs.lemmas.List.Elements.{All-nil}
+use Rattle.std.proofs.lemmas.Option.{slice_get-get_or}
 use Rattle.iob_base.specs.DeviceBlock.{BLANK, DeviceBlock}
 use Rattle.iob_base.specs.declared.TheConstants.{WORN}
 use Rattle.iob_base.specs.declared.sector.Page.{Page}
@@ -18,23 +19,27 @@ use Rattle.turn_cell.specs.Stakes.{total}
 use Rattle.range_core.specs.BlockTruth.{FitsClaim, HomeContent, IsHomeContent, IsLentContent, IsTrueAt, IsWholePage, is_gone}
 use Rattle.range_core.specs.Cells.{HasPlace, HasSector, IsBlock, IsPlaced}
 use Rattle.range_core.specs.ClaimsView.{ClaimsView}
-use Rattle.range_core.specs.DirectLends.{CanLendDirect, CanTake, away_direct, goes_out}
+use Rattle.range_core.specs.DirectLends.{CanLendDirect, CanTake, GoesOut, away_direct, direct_loan, goes_out}
 use Rattle.range_core.specs.EntryCounts.{one_where}
 use Rattle.range_core.specs.Kinds.{has_space, is_delalloc, is_mapped, is_unwritten}
 use Rattle.range_core.specs.Lends.{HaveSectors, lent_cell, part_of}
 use Rattle.range_core.specs.Loans.{ChangesSeat}
+use Rattle.range_core.specs.Lookups.{first_kind}
 use Rattle.range_core.specs.OnRun.{on_each, on_run}
 use Rattle.range_core.specs.RangeTruth.{is_lent_for_writing, pending}
-use Rattle.range_core.specs.RangeView.{IsOfRange, IsSound, RangeView, range_view}
+use Rattle.range_core.specs.RangeView.{IsOfRange, IsSound, RangeView, cells_from, range_view}
 use Rattle.range_core.specs.Refusals.{◌orElse◌, away, dirty, first_that_stops, lend_direct_refusal, run_of, stale, where_true, will_convert, worn}
 use Rattle.range_core.specs.Stakes.{RangeStake, names_block}
 use Rattle.range_core.specs.declared.cell.Cell.{Cell}
+use Rattle.range_core.specs.declared.direct_answer.Direct.TheVariants.{Lent as LentOut}
 use Rattle.range_core.specs.declared.lending.Away.{Away}
 use Rattle.range_core.specs.declared.lending.Held.{Held}
 use Rattle.range_core.specs.declared.lending.Lender.TheVariants.{Direct}
 use Rattle.range_core.specs.declared.sample.Sample.{Sample}
 use Rattle.range_core.proofs.FirstTruth.{All-there, total-few}
-use Rattle.range_core.proofs.KindSteps.{space-after, unwritten-after}
+use Rattle.range_core.proofs.KindRuns.{first_kind-drop}
+use Rattle.range_core.proofs.KindSteps.{mapped-after, space-after, unwritten-after}
+use Rattle.range_core.proofs.LendLemmas.{MayLend, can_transfer}
 use Rattle.range_core.proofs.LoanLemmas.{loan_is_claimed, others_stay_claimed}
 use Rattle.range_core.proofs.OnRunLemmas.{length-on_each, map-on_each}
 use Rattle.range_core.proofs.SoundLemmas.{All-on_each_at, sound_next, total-moved}
@@ -97,6 +102,11 @@ out_has_space Read (Unwritten d) h e = absurd (cc)
 out_has_space Read (Mapped d) h e = refl
 out_has_space Write kind h e = h
 
+-- the blocks of an extent go out together
+goes-after : (op : Op) (k : Kind) (i : ℕ) → goes_out op (kind_after k i) ≡ goes_out op k
+goes-after Read k i = mapped-after k i
+goes-after Write k i = refl
+
 -- at home a block with space has its sector
 pub sector_of : (size : ℕ) (kind : Kind) (sector : Option DeviceBlock) → HasSector size (device_number kind) sector → has_space kind ≡ true → IsSome sector
 sector_of size kind sector h e = at (device_number kind) sector h e
@@ -119,6 +129,28 @@ module _ (r : RangeView) (claims : ClaimsView) (seen : Sample) (op : Op) (block 
 
   pub have_sectors : IsSound r → CanLendDirect r claims seen op block pages → AreLendable r seen op block (length pages) → goes_out op seen.extent.kind ≡ true → HaveSectors r.cells (block - r.first) (length pages)
   have_sectors s can free out = record { each = λ k c l at. (sector_there s can free out k c l at).0 }
+
+  -- what goes out can be transferred, and is of a kind that goes out
+  pub goes_ready : IsSound r → CanLendDirect r claims seen op block pages → AreLendable r seen op block (length pages) → goes_out op seen.extent.kind ≡ true → length pages ≤ 16 → GoesOut op (first_kind (cells_from r block)) (LentOut (direct_loan r block pages))
+  goes_ready s can free out few =
+      let low : ℕ = block - r.first in
+      let begins = can.lies.low in
+      let ends = can.lies.high in
+      let some = can.lies.some in
+      let may : MayLend r.cells low (length pages) = record {
+        within = omega arith;
+        home = λ k c l at. (free.each k c l at).home;
+        space = λ k c l at. (sector_there s can free out k c l at).1;
+      } in
+      let z : low + 0 ≡ low = omega arith in
+      let within : low < length r.cells = omega arith in
+      let blank : Cell = record { kind = Hole; sector = None; away = None; page = None; dirty = false } in
+      let head : Cell = get_or r.cells low blank in
+      let first : slice_get r.cells low ≡ Some head = slice_get-get_or r.cells low blank within in
+      let kind : head.kind ≡ kind_after seen.extent.kind (block - seen.extent.block + 0) = (free.each 0 head some (ap (slice_get r.cells) z ∙ first)).kind in (
+        can_transfer r.geometry.block_size low r.cells pages s.places may can.whole some few,
+        ap (goes_out op) (first_kind-drop r.cells low head first ∙ kind) ∙ goes-after op seen.extent.kind _ ∙ out,
+      )
 
   pub lent_sound : (by : Tag) (ticket cookie errors tickets : ℕ) (log : List (ℕ × Stamp)) → IsSound r → CanLendDirect r claims seen op block pages → AreLendable r seen op block (length pages) → goes_out op seen.extent.kind ≡ true → log ≡ r.log
       → IsSound (range_view r.geometry r.mode r.first (on_run (lent_cell (away_direct by op ticket)) (block - r.first) (length pages) r.cells) log cookie errors tickets r.seat r.space)

@@ -18,7 +18,7 @@ use Rattle.turn_cell.specs.Stakes.{Begins}
 use Rattle.range_core.specs.BlockStates.{lent_for, state_of}
 use Rattle.range_core.specs.BlockTruth.{HomeContent, IsHomeContent, IsWholePage}
 use Rattle.range_core.specs.ClaimsView.{ClaimsView}
-use Rattle.range_core.specs.DirectLends.{CanLendDirect, ClaimsAnswer, ReadsZeros, ReadyToLend, TurnedToLend, after_lend_direct, away_direct, direct_answer, direct_lent, direct_loan, goes_out, lend_entry, lend_outcome, pages_in, zeroed, zeros_given}
+use Rattle.range_core.specs.DirectLends.{CanLendDirect, ClaimsAnswer, GoesOut, ReadsZeros, ReadyToLend, TurnedToLend, after_lend_direct, away_direct, direct_answer, direct_lent, direct_loan, goes_out, lend_entry, lend_outcome, pages_in, zeroed, zeros_given}
 use Rattle.range_core.specs.Kinds.{has_space, is_mapped}
 use Rattle.range_core.specs.Lends.{TakesHold, lent_cell, parts_of}
 use Rattle.range_core.specs.Loans.{ChangesSeat}
@@ -231,6 +231,7 @@ pub record DirectAnswered (now next : RangeView) (claims left : ClaimsView) (by 
   pub made : OnOk result (lend_direct_refusal now seen op block (length pages.items) ≡ None)
   pub state : OnOk result (next ≡ after_lend_direct now by seen op block (length pages.items))
   pub answer : IfOk result (λ a. a ≡ direct_answer now seen op block pages.items)
+  pub ready : IfOk result (λ a. GoesOut op (first_kind (cells_from now block)) a)
   pub claims_are : IfOk result (λ a. ClaimsAnswer claims left by op (first_kind (cells_from now block)) a)
   pub refused : IfErr result (λ e. e.fault ≡ unwrap_or (lend_direct_refusal now seen op block (length pages.items)) NoMemory)
   pub pages_back : IfErr result (λ e. e.pages ≡ pages)
@@ -288,6 +289,7 @@ module _ (opening now next : RangeView) (history seen : List Entry) (stakes : Li
             free = ap (λ l. lend_direct_refusal now change.seen change.op change.block (length l)) pages_are ∙ a.made;
             value = a.state ∙ ap (λ l. after_lend_direct now change.by change.seen change.op change.block (length l)) (sym pages_are);
             answer_is = a.answer ∙ ap (direct_answer now change.seen change.op change.block) (sym pages_are);
+            goes = a.ready;
             claims_are = a.claims_are;
             entry_is = refl;
             reads = lies.1;

@@ -5,6 +5,7 @@ pub mod AttachTruth
 pub mod ByteRunLemmas
 pub mod CellLemmas
 pub mod ClaimedPages
+pub mod ConversionLemmas
 pub mod CookieLemmas
 pub mod CountLemmas
 pub mod DaxPutLemmas

@@ -6,6 +6,7 @@ use Rattle.iob_base.specs.declared.stamp.Mode.TheVariants.{Cached}
 use Rattle.iob_base.specs.declared.stamp.Op.{Op}
 use Rattle.iob_base.specs.declared.stamp.Op.TheVariants.{Read, Write}
 use Rattle.iob_base.specs.declared.stamp.Tag.{Tag}
+use Rattle.fault_device.specs.Transfer.{CanTransfer}
 use Rattle.io_model.specs.Contents.{zeros}
 use Rattle.io_model.specs.declared.file.Kind.{Kind}
 use Rattle.range_core.specs.BlockTruth.{IsWholePage}
@@ -83,6 +84,11 @@ abbrev pub direct_answer : RangeView → Sample → Op → ℕ → List Page →
 direct_answer r seen op block pages =
     if goes_out op seen.extent.kind then LentOut (direct_loan r block pages) else Zeros (record { items = map zeroed pages })
 
+-- what was lent can be transferred, and its blocks are of a kind that goes out
+abbrev pub GoesOut : Op → Kind → Answer → Type 0
+GoesOut op kind (LentOut lent) = CanTransfer lent.parts.items × (goes_out op kind ≡ true)
+GoesOut op kind (Zeros pages) = Unit {0}
+
 -- the seat claims what was lent to it, and where nothing was lent it claims what it did
 abbrev pub ClaimsAnswer : ClaimsView → ClaimsView → Tag → Op → Kind → Answer → Type 0
 ClaimsAnswer claims left by op kind (LentOut lent) = TakesHold claims left lent (Direct by op) kind
@@ -128,6 +134,7 @@ pub record LentDirectly (change : LendPages) (opening : RangeView) (history : Li
   pub free : lend_direct_refusal before change.seen change.op change.block (length (pages_in change)) ≡ None
   pub value : after ≡ after_lend_direct before change.by change.seen change.op change.block (length (pages_in change))
   pub answer_is : answer ≡ direct_answer before change.seen change.op change.block (pages_in change)
+  pub goes : GoesOut change.op (first_kind (cells_from before change.block)) answer
   pub claims_are : ClaimsAnswer claims left change.by change.op (first_kind (cells_from before change.block)) answer
   pub entry_is : entry ≡ lend_entry claims change (lend_outcome before.tickets (length (pages_in change)) answer)
   pub reads : ReadsZeros opening history change.block answer

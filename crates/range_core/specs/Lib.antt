@@ -5,6 +5,7 @@ pub mod BlockTruth
 pub mod ByteRuns
 pub mod Cells
 pub mod ClaimsView
+pub mod Conversions
 pub mod DaxPools
 pub mod DaxPuts
 pub mod DaxReads

@@ -1,8 +1,9 @@
 -- The definitions tried on short histories of blocks of four bytes.
-use Rattle.std.specs.Prelude.{◌≡◌, ℕ, Bool, true, false, None, [], ◌∷◌}
+use Rattle.std.specs.Prelude.{◌≡◌, ℕ, Bool, true, false, None, [], ◌∷◌, if◌then◌else◌}
 use Rattle.iob_base.specs.declared.stamp.Mark.{Mark}
 use Rattle.iob_base.specs.declared.stamp.Mark.TheVariants.{Done as DoneMark, Landed, Missed}
-use Rattle.iob_base.specs.declared.stamp.Op.TheVariants.{Write}
+use Rattle.iob_base.specs.declared.stamp.Op.{Op}
+use Rattle.iob_base.specs.declared.stamp.Op.TheVariants.{Read, Write}
 use Rattle.iob_base.specs.declared.stamp.Stamp.{Stamp}
 use Rattle.iob_base.specs.declared.stamp.Tag.{Tag}
 use Rattle.fault_device.specs.declared.lane.Done.{Done}
@@ -13,9 +14,9 @@ use Rattle.range_core.specs.BlockStates.{BlockState, states_replayed}
 use Rattle.range_core.specs.EntryStamps.{stamps_in}
 use Rattle.range_core.specs.declared.entry.Entry.{Entry}
 use Rattle.range_core.specs.declared.entry.Event.{Event}
-use Rattle.range_core.specs.declared.entry.Event.TheVariants.{Store, LendWriteback, WrittenBack, DirectBack, Wipe}
+use Rattle.range_core.specs.declared.entry.Event.TheVariants.{Store, LendWriteback, WrittenBack, DirectBack, Wipe, DaxPut}
 use Rattle.range_core.specs.declared.entry.Outcome.{Outcome}
-use Rattle.range_core.specs.declared.entry.Outcome.TheVariants.{Counted, Lending, Finished}
+use Rattle.range_core.specs.declared.entry.Outcome.TheVariants.{Counted, Took, Lending, Finished}
 use Rattle.range_core.specs.declared.sample.Sample.{Sample}
 
 abbrev tag : Tag
@@ -30,8 +31,8 @@ entry event outcome = record { caller = 3; event = event; outcome = outcome }
 abbrev state : Kind → Bool → BlockState
 state kind dirty = record { kind = kind; dirty = dirty; away = None }
 
-abbrev done : ℕ → Bool → Done
-done landed failed = record { lane = 3; blocks = 4; landed = landed; failed = failed; before = 0; after = 1 }
+abbrev done : ℕ → ℕ → Bool → Done
+done blocks landed failed = record { lane = 3; blocks = blocks; landed = landed; failed = failed; before = 0; after = if failed then 1 else 0 }
 
 -- two bytes from the second one of block 0 on
 abbrev stored : Entry
@@ -41,7 +42,8 @@ abbrev lent : Entry
 lent = entry (LendWriteback 0 1) (Lending 0 1)
 
 abbrev back : Bool → Entry
-back failed = entry (WrittenBack 0 0 (Unwritten 7) 1 (done 1 failed)) (Counted 1)
+back true = entry (WrittenBack 0 0 (Unwritten 7) 1 (done 1 0 true)) (Counted 0)
+back false = entry (WrittenBack 0 0 (Unwritten 7) 1 (done 1 1 false)) (Counted 1)
 
 abbrev wiped : Entry
 wiped = entry (Wipe tag 0 1) (Counted 1)
@@ -75,8 +77,12 @@ stamp b mark = (b, record { caller = 3; call = 9; mark = mark })
 abbrev pub StoreStampsEachBlock : Type 0
 StoreStampsEachBlock = stamps_in 4 (entry (Store tag seen 3 5 (65 ∷ 66 ∷ [])) Finished ∷ []) ≡ stamp 0 DoneMark ∷ stamp 1 DoneMark ∷ []
 
+-- two pages of a caller's own come back from a transfer that failed after the first
+abbrev returned : Op → Kind → Entry
+returned op kind = entry (DirectBack tag op 0 0 kind ((1 ∷ 2 ∷ 3 ∷ 4 ∷ []) ∷ (5 ∷ 6 ∷ 7 ∷ 8 ∷ []) ∷ []) (done 2 1 true)) Finished
+
 abbrev sent : Kind → Entry
-sent kind = entry (DirectBack tag Write 0 0 kind ((1 ∷ 2 ∷ 3 ∷ 4 ∷ []) ∷ (5 ∷ 6 ∷ 7 ∷ 8 ∷ []) ∷ []) (done 1 true)) Finished
+sent kind = returned Write kind
 
 -- a direct write that failed after one of two blocks has landed on the first where they are mapped, and has changed its content alone
 abbrev pub FailedWriteLandsAPrefix : Type 0
@@ -89,3 +95,19 @@ abbrev pub FailedWriteLeavesUnwritten : Type 0
 FailedWriteLeavesUnwritten =
     (stamps_in 4 (sent (Unwritten 7) ∷ []) ≡ stamp 0 Missed ∷ stamp 1 Missed ∷ []) × (replayed 4 0 (0 ∷ 0 ∷ 0 ∷ 0 ∷ []) (sent (Unwritten 7) ∷ []) ≡ 0 ∷ 0 ∷ 0 ∷ 0 ∷ [])
     × (states_replayed 4 0 (state (Unwritten 7) false) (sent (Unwritten 7) ∷ []) ≡ state (Unwritten 7) false)
+
+-- a direct read that failed has missed both blocks, and changes nothing
+abbrev pub FailedReadMisses : Type 0
+FailedReadMisses =
+    (stamps_in 4 (returned Read (Mapped 7) ∷ []) ≡ stamp 0 Missed ∷ stamp 1 Missed ∷ []) × (replayed 4 0 (9 ∷ 9 ∷ 9 ∷ 9 ∷ []) (returned Read (Mapped 7) ∷ []) ≡ 9 ∷ 9 ∷ 9 ∷ 9 ∷ [])
+    × (states_replayed 4 0 (state (Mapped 7) false) (returned Read (Mapped 7) ∷ []) ≡ state (Mapped 7) false)
+
+-- two bytes go straight to block 0, from the second one on; it was a hole and took the sector 9
+abbrev put : Entry
+put = entry (DaxPut tag (record { cookie = 0; errors = 0; extent = record { block = 0; length = 4; kind = Hole } }) 1 3 (65 ∷ 66 ∷ [])) (Took ((0, 9) ∷ []))
+
+-- it is mapped then, has zeros around these bytes, and is stamped
+abbrev pub PutLeavesZerosAround : Type 0
+PutLeavesZerosAround =
+    (replayed 4 0 (0 ∷ 0 ∷ 0 ∷ 0 ∷ []) (put ∷ []) ≡ 0 ∷ 65 ∷ 66 ∷ 0 ∷ []) × (states_replayed 4 0 (state Hole false) (put ∷ []) ≡ state (Mapped 9) false)
+    × (stamps_in 4 (put ∷ []) ≡ stamp 0 DoneMark ∷ [])

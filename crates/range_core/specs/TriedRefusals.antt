@@ -2,11 +2,12 @@
 use Rattle.std.specs.Prelude.{◌≡◌, ℕ, Bool, true, false, Some, None, List, [], ◌∷◌}
 use Rattle.iob_base.specs.declared.TheConstants.{WORN}
 use Rattle.iob_base.specs.declared.stamp.Mode.TheVariants.{Cached}
+use Rattle.iob_base.specs.declared.stamp.Op.TheVariants.{Read, Write}
 use Rattle.iob_base.specs.declared.sector.Page.{Page}
 use Rattle.io_model.specs.declared.file.Kind.{Kind}
 use Rattle.io_model.specs.declared.file.Kind.TheVariants.{Hole, Delalloc, Unwritten, Mapped}
 use Rattle.range_core.specs.RangeView.{RangeView}
-use Rattle.range_core.specs.Refusals.{reserve_refusal, fetch_refusal, store_refusal, lend_read_refusal, lend_writeback_refusal, direct_now_refusal, wipe_refusal}
+use Rattle.range_core.specs.Refusals.{reserve_refusal, attach_refusal, preallocate_refusal, fetch_refusal, store_refusal, lend_read_refusal, lend_writeback_refusal, lend_direct_refusal, direct_now_refusal, wipe_refusal, dax_put_refusal}
 use Rattle.range_core.specs.Space.{SpaceClaims}
 use Rattle.space_pool.specs.declared.entry.PoolEntry.{PoolEntry}
 use Rattle.turn_cell.specs.Views.{SeatView, first_seat}
@@ -37,6 +38,10 @@ paged kind dirty = record { kind = kind; sector = None; away = None; page = Some
 abbrev lent : Kind → Lender → Cell
 lent kind lender = record { kind = kind; sector = None; away = Some (record { ticket = 5; lender = lender }); page = None; dirty = false }
 
+-- lent for writeback, a block has its page still
+abbrev written : Kind → Cell
+written kind = record (lent kind Writeback) { page = Some page }
+
 abbrev seen : ℕ → Kind → Sample
 seen cookie kind = record { cookie = cookie; errors = 0; extent = record { block = 0; length = 1; kind = kind } }
 
@@ -52,7 +57,7 @@ AwayComesBeforeCold =
 -- a block that is away for writeback hinders neither a fetch nor a store
 abbrev pub WritebackHindersNoStore : Type 0
 WritebackHindersNoStore =
-    (fetch_refusal (range 0 (lent (Mapped 7) Writeback ∷ [])) 1 2 ≡ None) × (store_refusal (range 0 (lent (Mapped 7) Writeback ∷ [])) (seen 0 (Mapped 7)) 1 2 ≡ None)
+    (fetch_refusal (range 0 (written (Mapped 7) ∷ [])) 1 2 ≡ None) × (store_refusal (range 0 (written (Mapped 7) ∷ [])) (seen 0 (Mapped 7)) 1 2 ≡ None)
 
 -- a store reads no block that it covers whole
 abbrev pub WholeBlocksAreNotCold : Type 0
@@ -75,3 +80,20 @@ abbrev pub WornChangesNoKind : Type 0
 WornChangesNoKind =
     (reserve_refusal (range WORN (bare Hole ∷ [])) (seen WORN Hole) ≡ Some (Worn WORN)) × (wipe_refusal (range WORN (bare (Mapped 7) ∷ [])) 0 1 ≡ Some (Worn WORN))
     × (wipe_refusal (range WORN (bare Hole ∷ [])) 0 1 ≡ None) × (lend_writeback_refusal (range WORN (paged (Unwritten 7) true ∷ [])) 0 ≡ Some (Worn WORN))
+    × (attach_refusal (range WORN (paged Delalloc true ∷ [])) 0 1 ≡ Some (Worn WORN)) × (attach_refusal (range WORN (bare Delalloc ∷ [])) 0 1 ≡ None)
+    × (preallocate_refusal (range WORN (bare Hole ∷ [])) 0 1 ≡ Some (Worn WORN)) × (preallocate_refusal (range WORN (bare (Mapped 7) ∷ [])) 0 1 ≡ None)
+
+-- a transfer of a caller's own pages is refused for its sample first, then for a block that is away, for one that is dirty, and for want of cookies where it would map blocks
+abbrev pub DirectLendsAreRefusedInOrder : Type 0
+DirectLendsAreRefusedInOrder =
+    (lend_direct_refusal (range 2 (lent (Mapped 7) Reading ∷ [])) (seen 1 (Mapped 7)) Write 0 1 ≡ Some (Stale 1 2))
+    × (lend_direct_refusal (range 0 (paged (Mapped 7) true ∷ lent (Mapped 8) Reading ∷ [])) (seen 0 (Mapped 7)) Read 0 2 ≡ Some (Away 1 5))
+    × (lend_direct_refusal (range WORN (paged (Unwritten 7) true ∷ [])) (seen WORN (Unwritten 7)) Write 0 1 ≡ Some (Dirty 0))
+    × (lend_direct_refusal (range WORN (bare (Unwritten 7) ∷ [])) (seen WORN (Unwritten 7)) Write 0 1 ≡ Some (Worn WORN))
+    × (lend_direct_refusal (range WORN (bare (Unwritten 7) ∷ [])) (seen WORN (Unwritten 7)) Read 0 1 ≡ None) × (lend_direct_refusal (range WORN (paged (Mapped 7) false ∷ [])) (seen WORN (Mapped 7)) Write 0 1 ≡ None)
+
+-- bytes for sectors are refused for their sample first, and then for want of cookies where they would map blocks
+abbrev pub PutsAreRefusedInOrder : Type 0
+PutsAreRefusedInOrder =
+    (dax_put_refusal (range WORN (bare Hole ∷ [])) (seen 3 Hole) ≡ Some (Stale 3 WORN)) × (dax_put_refusal (range WORN (bare Hole ∷ [])) (seen WORN Hole) ≡ Some (Worn WORN))
+    × (dax_put_refusal (range WORN (bare (Mapped 7) ∷ [])) (seen WORN (Mapped 7)) ≡ None)

@@ -1,7 +1,7 @@
 //! What a range keeps of a block, and the kinds that extents give.
 ghost use Rattle.std.specs.Prelude.{◌≡◌, ◌<◌, ◌≤◌, ◌+◌, ◌^◌, All, IfSome};
 ghost use Rattle.io_model.specs.Kinds.{covers, kind_after, kind_at, device_number, is_kind};
-ghost use Rattle.range_core.specs.Kinds.{HasNumbers, has_space};
+ghost use Rattle.range_core.specs.Kinds.{HasNumbers, has_space, is_mapped, is_unwritten};
 
 use crate::lending::Away;
 use io_model::{Extent, Kind};
@@ -19,6 +19,20 @@ pub struct Cell {
     pub page: Option<Page>,
     /// Whether its page has bytes that its sector lacks.
     pub dirty: bool,
+}
+
+/// Whether blocks of this kind have bytes of their own on the device.
+pub(crate) fn is_mapped_kind(kind: Kind) -> bool
+    ensures { result ≡ is_mapped kind }
+{
+    matches!(kind, Kind::Mapped(_))
+}
+
+/// Whether blocks of this kind have space that was never written.
+pub(crate) fn is_unwritten_kind(kind: Kind) -> bool
+    ensures { result ≡ is_unwritten kind }
+{
+    matches!(kind, Kind::Unwritten(_))
 }
 
 /// The kind that the extents give to a block of the file.

@@ -26,6 +26,7 @@ impl Chronicle for Range {
 }
 
 /// Cuts a seat of a new caller off: it gets the lowest spare caller number.
+#[derive(Clone, Copy)]
 pub struct NextCaller {}
 
 impl Cut<Range> for NextCaller {
@@ -41,6 +42,7 @@ impl Cut<Range> for NextCaller {
 }
 
 /// Cuts a seat for a ticket off: it works under the same caller number.
+#[derive(Clone, Copy)]
 pub struct SameCaller {}
 
 impl Cut<Range> for SameCaller {

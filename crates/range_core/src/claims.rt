@@ -82,7 +82,7 @@ impl Claims {
         }
     }
 
-    // Takes the spare numbers and the claim of another seat, of which only one of the two may have any.
+    /// Takes the spare numbers and the claim of another seat, of which only one of the two may have any.
     pub(crate) fn take_in(&mut self, from: Claims)
         requires { MayMerge self.old from }
         ensures { self.new ≡ merged_claims self.old from }
@@ -93,14 +93,14 @@ impl Claims {
         }
     }
 
-    // Takes a claim on blocks that are lent.
+    /// Takes a claim on blocks that are lent.
     pub(crate) fn hold(&mut self, held: Held)
         ensures { self.new ≡ holding self.old held }
     {
         self.held = Some(held);
     }
 
-    // Gives its claim up.
+    /// Gives its claim up.
     pub(crate) fn release(&mut self)
         ensures { self.new ≡ released self.old }
     {

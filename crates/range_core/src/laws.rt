@@ -1,9 +1,10 @@
 //! What the range truth says of loans, and the definitions tried on histories that can be checked by hand. Each law is a
 //! function that does nothing.
+ghost use Rattle.range_core.specs.Conversions.{OnlyWritesMap};
 ghost use Rattle.range_core.specs.Loans.{LoanIsClaimed, OthersStayClaimed, ReturnFreesClaim};
 ghost use Rattle.range_core.specs.Quiet.{RefusedIsQuiet};
-ghost use Rattle.range_core.specs.TriedRefusals.{StaleComesFirst, AwayComesBeforeCold, WritebackHindersNoStore, WholeBlocksAreNotCold, SettledIsNotLent, DirtyIsNotReadDirectly, WornChangesNoKind};
-ghost use Rattle.range_core.specs.Tried.{StoreLeavesZerosAround, WritebackMaps, FailedWritebackMakesDirty, StoreMeanwhileStaysDirty, WipeLeavesAHole, StoreStampsEachBlock, FailedWriteLandsAPrefix, FailedWriteLeavesUnwritten};
+ghost use Rattle.range_core.specs.TriedRefusals.{StaleComesFirst, AwayComesBeforeCold, WritebackHindersNoStore, WholeBlocksAreNotCold, SettledIsNotLent, DirtyIsNotReadDirectly, WornChangesNoKind, DirectLendsAreRefusedInOrder, PutsAreRefusedInOrder};
+ghost use Rattle.range_core.specs.Tried.{StoreLeavesZerosAround, WritebackMaps, FailedWritebackMakesDirty, StoreMeanwhileStaysDirty, WipeLeavesAHole, StoreStampsEachBlock, FailedWriteLandsAPrefix, FailedWriteLeavesUnwritten, FailedReadMisses, PutLeavesZerosAround};
 
 /// A block at home that a seat borrows is away on exactly that seat's claim, whatever others claim.
 pub fn loan_is_claimed()
@@ -23,6 +24,12 @@ pub fn others_stay_claimed()
 /// An event that was refused leaves the contents, the kinds, the dirty bits, the journals and the counts as they were.
 pub fn refused_is_quiet()
     ensures { RefusedIsQuiet }
+{}
+
+/// A block becomes mapped only where its page, or a caller's, came back from a write that did not fail, or where bytes went
+/// straight to its sector after a judgement that passed. No other event maps a block.
+pub fn only_writes_map()
+    ensures { OnlyWritesMap }
 {}
 
 /// A store into a block that was never written leaves zeros around its bytes, and makes it dirty.
@@ -54,12 +61,24 @@ pub fn failed_write_lands_a_prefix()
     ensures unwritten { FailedWriteLeavesUnwritten }
 {}
 
+/// A direct read that failed has missed all its blocks, and leaves them as they were.
+pub fn failed_read_misses()
+    ensures { FailedReadMisses }
+{}
+
+/// Bytes that go straight to a hole leave zeros around them, and the block is mapped.
+pub fn put_leaves_zeros_around()
+    ensures { PutLeavesZerosAround }
+{}
+
 /// Events are refused in this order: for a sample of another cookie, for a block that is away, for one that hinders as it
 /// is, and for want of cookies.
 pub fn refusals_have_an_order()
     ensures stale { StaleComesFirst }
     ensures away { AwayComesBeforeCold }
     ensures worn { WornChangesNoKind }
+    ensures direct { DirectLendsAreRefusedInOrder }
+    ensures put { PutsAreRefusedInOrder }
 {}
 
 /// A block hinders an event only where the event needs what it lacks.

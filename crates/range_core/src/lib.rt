@@ -7,10 +7,13 @@
 //! - `lending`, `claims`: what is lent, and what a seat claims of it
 //! - `sample`, `entry`, `fault`, `direct_answer`: what events tell, what a turn is in the history, and what events are
 //!   refused for
-//! - `range`: the range, how it begins and ends, and its events, each in a module of its own below it
+//! - `range`, `end`: the range, how it begins and ends, and its events, each in a module of its own below it
 //! - `chronicle`: the range as the value of a turn cell, and how seats are cut
-//! - `open`, `merge`, `stops`, `cookie`, `parts`, `dax_bytes`, `stamps`, `run`, `leading`, `fresh`, `paging`, `lend`, `place`, `space`:
-//!   what the events are made of
+//! - `open`, `merge`: blocks from extents, and extents from blocks
+//! - `stops`, `cookie`: what hinders an event
+//! - `run`, `leading`, `parts`, `place`: runs of blocks and of bytes, and which blocks of a run an event picks
+//! - `fresh`, `paging`, `dax_bytes`: pages of zeros, and the bytes of sectors
+//! - `lend`, `stamps`, `space`: how sectors go out and come home, what is stamped, and the turns at the pool
 //! - `laws`: what the definitions say, tried by hand
 #![tactic(auto)]
 
@@ -50,9 +53,10 @@ pub use fault::EventFault;
 pub use io_model::{BlockEnd, Extent, Kind};
 pub use iov_iter::Pages;
 pub use laws::{
-    failed_write_lands_a_prefix, loan_is_claimed, only_what_hinders_refuses, others_stay_claimed,
-    refusals_have_an_order, refused_is_quiet, return_frees_claim, store_leaves_zeros_around,
-    store_stamps_each_block, wipe_leaves_a_hole, writeback_maps,
+    failed_read_misses, failed_write_lands_a_prefix, loan_is_claimed, only_what_hinders_refuses,
+    only_writes_map, others_stay_claimed, put_leaves_zeros_around, refusals_have_an_order,
+    refused_is_quiet, return_frees_claim, store_leaves_zeros_around, store_stamps_each_block,
+    wipe_leaves_a_hole, writeback_maps,
 };
 pub use lending::{Away, Held, Lender, Lent};
 pub use range::{

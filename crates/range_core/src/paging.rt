@@ -5,7 +5,7 @@ ghost use Rattle.range_core.specs.OnRun.{count_on, on_run};
 ghost use Rattle.range_core.specs.BlockStates.{is_zero_already, state_of};
 ghost use Rattle.range_core.specs.Paging.{filled_where};
 
-use crate::cell::Cell;
+use crate::cell::{Cell, is_mapped_kind};
 use crate::fresh::fresh_pages;
 use io_model::Kind;
 use std::alloc::{AllocError, Global};
@@ -34,11 +34,11 @@ impl Needs for NeedsPage {
     }
 }
 
-/// Whether zeros over a block that reads as zeros, at home and clean, change nothing.
+/// Whether a block reads as zeros, at home and clean, so that zeros over it change nothing.
 pub(crate) fn is_zero(cell: &Cell) -> bool
     ensures { result ≡ is_zero_already (state_of cell.now) }
 {
-    if matches!(cell.kind, Kind::Mapped(_)) {
+    if is_mapped_kind(cell.kind) {
         return false;
     }
     if cell.dirty {

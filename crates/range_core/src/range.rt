@@ -87,8 +87,10 @@ impl Range {
     ghost use Rattle.range_core.specs.RangeView.{IsSound, range_of};
     ghost use Rattle.range_core.specs.Stamps.{bare_end, journaled};
 
-    /// The range of `blocks` blocks from the file block `first`, with the kinds that the extents give. The sectors are
-    /// those of the extents, in order of blocks, and the seat at the pool claims them.
+    /// The range of `blocks` blocks from the file block `first`, which end at most at 65,536, with the kinds that the extents give, and
+    /// holes elsewhere. The extents lie in the range and have space. The sectors are theirs, in order of blocks, and the
+    /// seat at the pool claims just these. The cookie is the one that the first samples tell, at most `WORN`. With mode
+    /// `Dax` the range caches nothing.
     ///
     /// # Errors
     ///

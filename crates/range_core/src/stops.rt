@@ -2,7 +2,7 @@
 ghost use Rattle.std.specs.Prelude.{◌≡◌, ◌+◌, ◌≤◌, ◌^◌, ◌<◌, length};
 ghost use Rattle.range_core.specs.Refusals.{first_that_stops, is_cold};
 
-use crate::cell::Cell;
+use crate::cell::{Cell, is_mapped_kind};
 use crate::fault::EventFault;
 use crate::lending::Lender;
 use io_model::Kind;
@@ -73,7 +73,7 @@ impl Hinders for IsAwayWithPage {
 pub(crate) fn is_cold_block(cell: &Cell) -> bool
     ensures { result ≡ is_cold cell.now }
 {
-    if !matches!(cell.kind, Kind::Mapped(_)) {
+    if !is_mapped_kind(cell.kind) {
         return false;
     }
     if cell.away.is_some() {

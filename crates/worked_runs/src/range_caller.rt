@@ -41,9 +41,7 @@ pub(crate) fn two_callers<'a, R: Abort + Wait>(
     ensures first { Stands result.0.ground.now.cell result.0.seat result.0.sample result.0.loan }
     ensures second { Stands result.1.ground.now.cell result.1.seat result.1.sample result.1.loan }
 {
-    let mut cut = NextCaller {};
-    let other = ground.cell.split(&mut seat, 1, &mut cut);
-    let NextCaller {} = cut;
+    let other = ground.cell.split(&mut seat, 1, &mut NextCaller {});
     let first = Caller {
         rt,
         alloc,

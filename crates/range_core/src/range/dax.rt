@@ -10,9 +10,10 @@ ghost use Rattle.range_core.specs.DaxReads.{AreHomeIn, stored_at};
 ghost use Rattle.range_core.specs.DirectNow.{IsReady, stored_bytes};
 
 use super::Range;
-use super::now::{ask, is_mapped_kind};
-use crate::cell::Cell;
+use super::now::ask;
+use crate::cell::{Cell, is_mapped_kind};
 use crate::claims::Claims;
+use crate::cookie::stale_stop;
 use crate::fault::EventFault;
 use crate::parts::{BlockPart, ByteRun, byte_run, part_of};
 use crate::sample::Sample;
@@ -145,11 +146,8 @@ impl Range {
         ensures unchanged { OnErr result (self.new ≡ self.old) }
         ensures nothing { OnErr result (iov.new ≡ iov.old) }
     {
-        if seen.cookie != self.cookie {
-            return Err(EventFault::Stale {
-                sample: seen.cookie,
-                now: self.cookie,
-            });
+        if let Some(fault) = stale_stop(self.cookie, seen) {
+            return Err(fault);
         }
         let run = byte_run(&self.geometry, from, to);
         let Ok(()) = self.log.reserve(run.blocks + self.cells.len()) else {
@@ -166,7 +164,7 @@ impl Range {
     }
 }
 
-/// The turn that reads bytes straight from the sectors.
+/// The turn of `Range::dax_get`, with any judgement. It answers the same.
 #[derive(Drop)]
 pub struct DaxGetBytes<'a, F> {
     pub by: Tag,

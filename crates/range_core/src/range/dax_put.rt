@@ -17,10 +17,10 @@ ghost use Rattle.range_core.specs.Stores.{next_bytes, past};
 ghost use Rattle.range_core.specs.Through.{made_mapped, through};
 
 use super::Range;
-use super::now::{ask, is_mapped_kind};
-use crate::cell::Cell;
+use super::now::ask;
+use crate::cell::{Cell, is_mapped_kind};
 use crate::claims::Claims;
-use crate::cookie::{next_cookie, worn_stop};
+use crate::cookie::{next_cookie, stale_stop, worn_stop};
 use crate::dax_bytes::{blank_sector, write_sector};
 use crate::fault::EventFault;
 use crate::parts::{BlockPart, ByteRun, byte_run, part_of};
@@ -214,11 +214,8 @@ impl Range {
         ensures met { IsByteRun (run_between self.old.geometry.block_size from to) }
     {
         let run = byte_run(&self.geometry, from, to);
-        if seen.cookie != self.cookie {
-            return Err(EventFault::Stale {
-                sample: seen.cookie,
-                now: self.cookie,
-            });
+        if let Some(fault) = stale_stop(self.cookie, seen) {
+            return Err(fault);
         }
         let changed = kinds_changed(seen.extent.kind);
         if let Some(fault) = worn_stop(self.cookie, changed) {
@@ -242,7 +239,7 @@ impl Range {
     }
 }
 
-/// The turn that writes bytes straight into sectors.
+/// The turn of `Range::dax_put`, with any judgement. It answers the same.
 #[derive(Drop)]
 pub struct DaxPutBytes<'a, R, F> {
     pub rt: &'a R,

@@ -10,9 +10,10 @@ ghost use Rattle.range_core.specs.Kinds.{is_mapped};
 ghost use Rattle.range_core.specs.OnRun.{on_each};
 
 use super::Range;
-use super::now::{ask, is_mapped_kind};
-use crate::cell::Cell;
+use super::now::ask;
+use crate::cell::{Cell, is_mapped_kind};
 use crate::claims::Claims;
+use crate::cookie::stale_stop;
 use crate::dax_bytes::clear_sector;
 use crate::fault::EventFault;
 use crate::parts::{BlockPart, ByteRun, byte_run, part_of};
@@ -129,11 +130,8 @@ impl Range {
         ensures met { IsByteRun (run_between self.old.geometry.block_size from to) }
     {
         let run = byte_run(&self.geometry, from, to);
-        if seen.cookie != self.cookie {
-            return Err(EventFault::Stale {
-                sample: seen.cookie,
-                now: self.cookie,
-            });
+        if let Some(fault) = stale_stop(self.cookie, seen) {
+            return Err(fault);
         }
         let Ok(()) = self.log.reserve(run.blocks + self.cells.len()) else {
             return Err(EventFault::NoMemory);
@@ -147,7 +145,7 @@ impl Range {
     }
 }
 
-/// The turn that lays zeros over sectors.
+/// The turn of `Range::dax_zero`, with any judgement. It answers the same.
 #[derive(Drop)]
 pub struct DaxZeroBytes<F> {
     pub by: Tag,

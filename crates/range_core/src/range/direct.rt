@@ -9,8 +9,9 @@ ghost use Rattle.range_core.specs.OnRun.{on_run};
 ghost use Rattle.range_core.specs.Refusals.{will_convert};
 
 use super::Range;
-use crate::cell::Cell;
+use crate::cell::{Cell, is_mapped_kind, is_unwritten_kind};
 use crate::claims::Claims;
+use crate::cookie::{stale_stop, worn_stop};
 use crate::direct_answer::{Direct, DirectRefused};
 use crate::fault::EventFault;
 use crate::lend::{bring_home, lend_blocks, mark_run_written};
@@ -31,7 +32,7 @@ fn is_lent(op: Op, kind: Kind) -> bool
     ensures { result ≡ goes_out op kind }
 {
     match op {
-        Op::Read => matches!(kind, Kind::Mapped(_)),
+        Op::Read => is_mapped_kind(kind),
         Op::Write => true,
     }
 }
@@ -42,7 +43,7 @@ fn converts(op: Op, kind: Kind) -> bool
 {
     match op {
         Op::Read => false,
-        Op::Write => matches!(kind, Kind::Unwritten(_)),
+        Op::Write => is_unwritten_kind(kind),
     }
 }
 
@@ -96,12 +97,12 @@ fn end_run(cells: &mut Vec<Cell>, low: usize, n: usize, op: Op, failed: bool)
     mark_run_written(cells, low, n);
 }
 
-/// 1 where blocks of this kind were mapped by it, else 0.
+/// By how much the cookie rises where blocks of this kind come back: 1 where the transfer maps them, else 0.
 fn rise_of(op: Op, kind: Kind, failed: bool) -> u64
     ensures rise { result ≡ one_where (is_unwritten kind && is_write_back op failed) }
     ensures few { result ≤ 1 }
 {
-    if !matches!(kind, Kind::Unwritten(_)) {
+    if !is_unwritten_kind(kind) {
         return 0;
     }
     u64::from(has_written(op, failed))
@@ -124,7 +125,7 @@ fn may_land(op: Op, kind: Kind) -> bool
 {
     match op {
         Op::Read => false,
-        Op::Write => matches!(kind, Kind::Mapped(_)),
+        Op::Write => is_mapped_kind(kind),
     }
 }
 
@@ -159,7 +160,7 @@ fn stamp_back(
 impl Range {
     ghost use Rattle.range_core.specs.ClaimsView.{released};
     ghost use Rattle.range_core.specs.DirectBacks.{KeepsPages, after_direct_back, kind_held, pages_held};
-    ghost use Rattle.range_core.specs.DirectLends.{CanLendDirect, ClaimsAnswer, after_lend_direct, direct_answer};
+    ghost use Rattle.range_core.specs.DirectLends.{CanLendDirect, ClaimsAnswer, GoesOut, after_lend_direct, direct_answer};
     ghost use Rattle.range_core.specs.Lookups.{first_kind};
     ghost use Rattle.range_core.specs.RangeView.{LiesAt, cells_from};
     ghost use Rattle.range_core.specs.Refusals.{lend_direct_refusal};
@@ -171,11 +172,8 @@ impl Range {
         requires { LiesAt self.now block n }
         ensures { result ≡ lend_direct_refusal self.now seen op block n }
     {
-        if seen.cookie != self.cookie {
-            return Some(EventFault::Stale {
-                sample: seen.cookie,
-                now: self.cookie,
-            });
+        if let Some(fault) = stale_stop(self.cookie, seen) {
+            return Some(fault);
         }
         let low = (block - self.first) as usize;
         let cells = &self.cells[low..low + n];
@@ -188,12 +186,7 @@ impl Range {
         if !converts(op, seen.extent.kind) {
             return None;
         }
-        if self.cookie < WORN {
-            return None;
-        }
-        Some(EventFault::Worn {
-            cookie: self.cookie,
-        })
+        worn_stop(self.cookie, 1)
     }
 
     /// Lends the sectors of as many blocks as there are pages with these pages, for a transfer that skips the page cache.
@@ -221,6 +214,7 @@ impl Range {
         ensures made { OnOk result (lend_direct_refusal self.old seen op block (length pages.items) ≡ None) }
         ensures state { OnOk result (self.new ≡ after_lend_direct self.old by seen op block (length pages.items)) }
         ensures answer { IfOk result (λ a. a ≡ direct_answer self.old seen op block pages.items) }
+        ensures ready { IfOk result (λ a. GoesOut op (first_kind (cells_from self.old block)) a) }
         ensures claims { IfOk result (λ a. ClaimsAnswer claims.old claims.new by op (first_kind (cells_from self.old block)) a) }
 
         // Why it is refused, and that nothing has changed then.
@@ -286,7 +280,7 @@ impl Range {
     }
 }
 
-/// The turn that lends blocks with a caller's own pages.
+/// The turn of `Range::lend_direct`, which lends blocks with a caller's own pages. It answers the same.
 #[derive(Drop)]
 pub struct LendPages {
     pub by: Tag,
@@ -314,7 +308,8 @@ impl Change<Range> for LendPages {
     }
 }
 
-/// The turn that brings such blocks home.
+/// The turn of `Range::direct_back`, which brings blocks home that were lent with a caller's own pages. It answers the
+/// pages.
 #[derive(Drop)]
 pub struct EndDirect {
     pub by: Tag,

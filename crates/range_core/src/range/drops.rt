@@ -63,7 +63,7 @@ impl Range {
     }
 }
 
-/// The turn that drops the clean pages of a run of blocks.
+/// The turn of `Range::drop_clean`, which drops the clean pages of a run of blocks. It answers how many.
 #[derive(Clone, Copy)]
 pub struct DropPages {
     pub block: u64,

@@ -123,7 +123,7 @@ impl Range {
     }
 }
 
-/// The turn that copies bytes to an iov.
+/// The turn of `Range::fetch`, which copies bytes to an iov. It answers the same.
 #[derive(Drop)]
 pub struct FetchBytes<'a> {
     pub by: Tag,

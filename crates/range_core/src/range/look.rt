@@ -33,7 +33,7 @@ impl Range {
     }
 }
 
-/// The turn that takes a sample.
+/// The turn of `Range::sample`. It answers the sample.
 #[derive(Clone, Copy)]
 pub struct Look {
     pub block: u64,

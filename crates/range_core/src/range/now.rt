@@ -12,7 +12,7 @@ ghost use Rattle.range_core.specs.OnRun.{on_run};
 ghost use Rattle.range_core.specs.Refusals.{◌orElse◌, away, dirty, first_that_stops};
 
 use super::Range;
-use crate::cell::Cell;
+use crate::cell::{Cell, is_mapped_kind};
 use crate::claims::Claims;
 use crate::fault::EventFault;
 use crate::run::run_at;
@@ -62,13 +62,6 @@ fn now_run(cells: &[Cell], at: usize, most: usize) -> usize
 {
     let run = run_at(cells, at, most);
     clean_run(&cells[at..][..run])
-}
-
-/// Whether blocks of this kind have bytes of their own on the device.
-pub(super) fn is_mapped_kind(kind: Kind) -> bool
-    ensures { result ≡ is_mapped kind }
-{
-    matches!(kind, Kind::Mapped(_))
 }
 
 /// One judgement of `n` blocks, where they are mapped.
@@ -245,7 +238,8 @@ impl Range {
     }
 }
 
-/// The turn that reads a run of blocks past the page cache.
+/// The turn of `Range::direct_now`, with any judgement. It reads a run of blocks past the page cache, and answers the
+/// same.
 #[derive(Drop)]
 pub struct ReadNow<'a, F> {
     pub by: Tag,

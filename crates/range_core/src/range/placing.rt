@@ -105,7 +105,7 @@ impl Range {
     }
 }
 
-/// The turn that attaches the dirty blocks of a run.
+/// The turn of `Range::attach`, which gives sectors to the dirty blocks of a run. It answers the same.
 #[derive_where(Clone, Copy)]
 pub struct AttachRun<'a, R> {
     pub rt: &'a R,
@@ -130,7 +130,7 @@ impl<'a, R: Wait> Change<Range> for AttachRun<'a, R> {
     }
 }
 
-/// The turn that gives sectors to the blocks of a run that have none.
+/// The turn of `Range::preallocate`, which gives sectors to the blocks of a run that have none. It answers the same.
 #[derive_where(Clone, Copy)]
 pub struct PreallocateRun<'a, R> {
     pub rt: &'a R,

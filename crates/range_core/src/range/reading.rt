@@ -189,7 +189,7 @@ impl Range {
     }
 }
 
-/// The turn that lends blocks for a read.
+/// The turn of `Range::lend_read`, which lends blocks for a read into the cache. It answers the same.
 #[derive(Clone, Copy)]
 pub struct LendCold {
     pub block: u64,
@@ -211,9 +211,10 @@ impl Change<Range> for LendCold {
     }
 }
 
-/// The turn that takes blocks back from a read.
+/// The turn of `Range::fill_back`, which takes blocks back from a read into the cache.
 #[derive(Drop)]
 pub struct FillPages {
+    /// What comes back, until the turn takes it.
     pub back: Option<Lent>,
     pub done: Done,
 }

@@ -7,7 +7,7 @@ ghost use Rattle.range_core.specs.Reserving.{promised_cell, released};
 use super::Range;
 use crate::cell::Cell;
 use crate::claims::Claims;
-use crate::cookie::next_cookie;
+use crate::cookie::{next_cookie, stale_stop, worn_stop};
 use crate::fault::EventFault;
 use crate::place::{IsUnused, Picks, count_run};
 use crate::sample::Sample;
@@ -63,21 +63,13 @@ impl Range {
     ghost use Rattle.range_core.specs.Samples.{IsKnown};
 
     // What hinders a change of the kind that a sample told.
-    fn reserve_stop(&self, seen: &Sample) -> Option<EventFault>
-        ensures { result ≡ reserve_refusal self.now seen.now }
+    fn reserve_stop(&self, seen: Sample) -> Option<EventFault>
+        ensures { result ≡ reserve_refusal self.now seen }
     {
-        if seen.cookie != self.cookie {
-            return Some(EventFault::Stale {
-                sample: seen.cookie,
-                now: self.cookie,
-            });
+        if let Some(fault) = stale_stop(self.cookie, seen) {
+            return Some(fault);
         }
-        if self.cookie >= WORN {
-            return Some(EventFault::Worn {
-                cookie: self.cookie,
-            });
-        }
-        None
+        worn_stop(self.cookie, 1)
     }
 
     /// Promises space to as many of the first `blocks` blocks of a sample as the pool has sectors for, and answers a
@@ -106,7 +98,7 @@ impl Range {
         ensures state { IfOk result (λ s. self.new ≡ reserved_run self.old seen s.extent.length self.new.seat) }
         ensures reserved { IfOk result (λ s. ReservesSomeAt (pool_cell space.now).opening blocks (Ok s.extent.length) (place_of self.old) (place_of self.new)) }
     {
-        if let Some(fault) = self.reserve_stop(&seen) {
+        if let Some(fault) = self.reserve_stop(seen) {
             return Err(fault);
         }
         let found = match space.reserve_some(rt, &mut self.seat, blocks) {
@@ -146,7 +138,7 @@ impl Range {
     }
 }
 
-/// The turn that promises space to holes.
+/// The turn of `Range::reserve`, which promises space to holes. It answers the same.
 #[derive_where(Clone, Copy)]
 pub struct ReserveRun<'a, R> {
     pub rt: &'a R,
@@ -169,7 +161,7 @@ impl<'a, R: Wait> Change<Range> for ReserveRun<'a, R> {
     }
 }
 
-/// The turn that takes such promises back.
+/// The turn of `Range::unreserve`, which takes promises of space back. It answers how many.
 #[derive_where(Clone, Copy)]
 pub struct UnreserveRun<'a, R> {
     pub rt: &'a R,

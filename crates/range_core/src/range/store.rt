@@ -9,6 +9,7 @@ ghost use Rattle.range_core.specs.Stores.{dirtied, laid, next_bytes, past};
 use super::Range;
 use crate::cell::Cell;
 use crate::claims::Claims;
+use crate::cookie::stale_stop;
 use crate::fault::EventFault;
 use crate::paging::{NeedsPage, fill_pages};
 use crate::parts::{BlockPart, ByteRun, byte_run, is_in_part, part_of};
@@ -94,11 +95,8 @@ impl Range {
         requires { IsRunIn self.now run }
         ensures { result ≡ store_refusal self.now seen run.from run.to }
     {
-        if seen.cookie != self.cookie {
-            return Some(EventFault::Stale {
-                sample: seen.cookie,
-                now: self.cookie,
-            });
+        if let Some(fault) = stale_stop(self.cookie, seen) {
+            return Some(fault);
         }
         let low = (run.first - self.first) as usize;
         let met = &self.cells[low..low + run.blocks];
@@ -177,7 +175,7 @@ impl Range {
     }
 }
 
-/// The turn that stores an iov's bytes.
+/// The turn of `Range::store`, which lays an iov's bytes over the cache. It answers the same.
 #[derive(Drop)]
 pub struct StoreBytes<'a> {
     pub by: Tag,

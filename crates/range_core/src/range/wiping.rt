@@ -111,7 +111,7 @@ impl Range {
     }
 }
 
-/// The turn that makes holes of a run of blocks.
+/// The turn of `Range::wipe`, which makes holes of a run of blocks. It answers the same.
 #[derive_where(Clone, Copy)]
 pub struct WipeRun<'a, R> {
     pub rt: &'a R,

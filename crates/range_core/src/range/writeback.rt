@@ -7,7 +7,7 @@ ghost use Rattle.range_core.specs.Refusals.{◌orElse◌, away, not_ready};
 ghost use Rattle.range_core.specs.Writebacks.{dirtied_cell, page_copy, raise, write_run, ended_of};
 
 use super::Range;
-use crate::cell::{Cell, continues};
+use crate::cell::{Cell, continues, is_unwritten_kind};
 use crate::claims::Claims;
 use crate::fault::EventFault;
 use crate::leading::{Joins, leading_run, most_lent};
@@ -74,13 +74,6 @@ fn is_not_dirty(block: u64, cell: &Cell) -> Option<EventFault>
     IsNotReady {}.at(block, cell)
 }
 
-/// Whether blocks of this kind have space that was never written.
-fn is_never_written(kind: Kind) -> bool
-    ensures { result ≡ is_unwritten kind }
-{
-    matches!(kind, Kind::Unwritten(_))
-}
-
 fn copy_page(alloc: Global, cell: &Cell) -> Result<Page, AllocError>
     ensures { IfOk result (λ page. page ≡ page_copy cell.now) }
 {
@@ -136,7 +129,7 @@ fn write_run_back(cells: &mut Vec<Cell>, low: usize, parts: Parts, failed: bool)
     mark_run_written(cells, low, n);
 }
 
-// 1 where blocks of this kind change it as they come back, else 0.
+// By how much the cookie rises where blocks of this kind come back from a write: 1 where it maps them, else 0.
 fn cookie_raise(kind: Kind, failed: bool) -> u64
     ensures value { result ≡ raise kind failed }
     ensures few { result ≤ 1 }
@@ -144,7 +137,7 @@ fn cookie_raise(kind: Kind, failed: bool) -> u64
     if failed {
         return 0;
     }
-    u64::from(is_never_written(kind))
+    u64::from(is_unwritten_kind(kind))
 }
 
 impl Range {
@@ -172,7 +165,7 @@ impl Range {
         if let Some(fault) = is_not_dirty(block, cell) {
             return Err(fault);
         }
-        if is_never_written(cell.kind) && self.cookie >= WORN {
+        if is_unwritten_kind(cell.kind) && self.cookie >= WORN {
             return Err(EventFault::Worn {
                 cookie: self.cookie,
             });
@@ -250,7 +243,7 @@ impl Range {
     }
 }
 
-/// The turn that lends dirty blocks for a write.
+/// The turn of `Range::lend_writeback`, which lends dirty blocks for a write. It answers the same.
 #[derive(Clone, Copy)]
 pub struct LendDirty {
     pub block: u64,
@@ -272,9 +265,11 @@ impl Change<Range> for LendDirty {
     }
 }
 
-/// The turn that takes blocks back from a write.
+/// The turn of `Range::written_back`, which takes blocks back from a write of their pages. It answers how many were
+/// written.
 #[derive(Drop)]
 pub struct EndWriteback {
+    /// What comes back, until the turn takes it.
     pub back: Option<Lent>,
     pub done: Done,
 }

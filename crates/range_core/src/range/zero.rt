@@ -114,7 +114,7 @@ impl Range {
     }
 }
 
-/// The turn that stores zeros.
+/// The turn of `Range::store_zeros`. It answers the same.
 #[derive(Clone, Copy)]
 pub struct StoreZeroBytes {
     pub by: Tag,

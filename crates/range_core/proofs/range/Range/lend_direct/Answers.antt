@@ -2,13 +2,16 @@ use Rattle.std.proofs.Common.{◌≡◌, ℕ, ◌+◌, ◌-◌, ◌≤◌, lengt
 use Rattle.turn_cell.specs.Seats.{seat_claims, seat_view}
 use Rattle.turn_cell.specs.Stakes.{total}
 use Rattle.range_core.specs.BlockTruth.{is_gone}
-use Rattle.range_core.specs.DirectLends.{CanLendDirect, away_direct}
+use Rattle.range_core.specs.DirectLends.{CanLendDirect, GoesOut, away_direct, direct_loan}
 use Rattle.range_core.specs.Lends.{lent_cell}
+use Rattle.range_core.specs.Lookups.{first_kind}
 use Rattle.range_core.specs.OnRun.{on_run}
-use Rattle.range_core.specs.RangeView.{IsSound, LiesAt, RangeView, range_view}
+use Rattle.range_core.specs.RangeView.{IsSound, LiesAt, RangeView, cells_from, range_view}
 use Rattle.range_core.specs.Refusals.{lend_direct_refusal}
 use Rattle.range_core.specs.declared.cell.Cell.{Cell}
-use Rattle.range_core.proofs.DirectLendLemmas.{have_sectors, lendable, lent_sound}
+use Rattle.range_core.specs.declared.direct_answer.Direct.TheVariants.{Lent as LentOut}
+use Rattle.range_core.specs.declared.lending.Lent.{Lent}
+use Rattle.range_core.proofs.DirectLendLemmas.{goes_ready, have_sectors, lendable, lent_sound}
 use Rattle.range_core.proofs.OnRunLemmas.{length-on_each}
 use Rattle.range_core.proofs.SoundLemmas.{gone-within}
 use Rattle.range_core.proofs.StampedTruth.{stamped_sound}
@@ -61,3 +64,19 @@ invariant_of-self-then-not-is_lent c =
       stamped_sound view _ _ _ _ _ c.self.invariant.0 (subst M (sym n) lies) c.reserve.ensures.items c.add_stamps.ensures.items,
       omega arith,
     )
+
+pub returns-clause-ready : goal.returns-clause-ready
+returns-clause-ready c =
+    let r = c.self.inside in
+    let pages = c.args.pages.items in
+    let view : RangeView = range_view r.geometry r.mode r.first r.cells.items r.log.items r.cookie r.errors r.tickets (seat_view r.seat) (seat_claims r.seat).facts in
+    let is = sym c.self.view_is in
+    let C : RangeView → Type 0 = λ v. CanLendDirect v c.args.claims.now c.args.seen c.args.op c.args.block pages in
+    let can : C view = subst C is c.requires in
+    let F : RangeView → Type 0 = λ v. lend_direct_refusal v c.args.seen c.args.op c.args.block (length pages) ≡ None in
+    let free : F view = subst F is (ap (lend_direct_refusal c.args.self.now c.args.seen c.args.op c.args.block) (sym c.len.ensures.value) ∙ sym c.in_default.ensures) in
+    let lent : c.lend_blocks.result ≡ direct_loan view c.args.block pages = c.lend_blocks.ensures.lent in
+    let T : Lent → Type 0 = λ l. GoesOut c.args.op (first_kind (cells_from view c.args.block)) (LentOut l) in
+    let V : RangeView → Type 0 = λ v. GoesOut c.args.op (first_kind (cells_from v c.args.block)) (LentOut c.lend_blocks.result) in
+    subst V c.self.view_is
+    (subst T (sym lent) (goes_ready view c.args.claims.now c.args.seen c.args.op c.args.block pages c.self.invariant.0 can (lendable view _ _ _ _ pages can free) (sym c.if-not-is_lent.ensures) (omega (arith, c.len.ensures.value, c.len.ensures.fits))))

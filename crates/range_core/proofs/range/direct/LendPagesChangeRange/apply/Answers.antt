@@ -15,4 +15,4 @@ returns c s =
     let e = c.lend_direct.ensures in
     turned_to_lend s.opening c.args.value.now _ s.history s.seen s.stakes s.number c.args.claims.now _ s.made change _ c.in-Some.pages s.stands.holds s.stands.here s.begins s.is_ready
     (sym c.take.ensures.value ∙ c.in-Some.is) (ap (λ (o : Option (ArrayVec Page)). record change { pages = o }) c.take.ensures.after) c.lend_direct.result
-    (record { made = e.made; state = e.state; answer = e.answer; claims_are = e.claims; refused = e.refused; pages_back = e.pages_back; unchanged = e.unchanged; unclaimed = e.unclaimed })
+    (record { made = e.made; state = e.state; answer = e.answer; ready = e.ready; claims_are = e.claims; refused = e.refused; pages_back = e.pages_back; unchanged = e.unchanged; unclaimed = e.unclaimed })
