@@ -212,6 +212,12 @@ const DIRECT_WRITES_FAIL: Run = Run {
     lines: &[
         (0, Step::Look(0, 6), "cookie 0, errors 0, 0+2 mapped 2"),
         (0, Step::LendDirect(Op::Write, 0, b"yz"), "ticket 0, 0+2"),
+        (1, Step::Look(0, 6), "cookie 0, errors 0, 0+2 mapped 2"),
+        (
+            1,
+            Step::Store(0, b"0123456789abcdef"),
+            "Away { block: 0, ticket: 0 }",
+        ),
         (1, Step::Look(2, 6), "cookie 0, errors 0, 2+1 unwritten 5"),
         (1, Step::LendDirect(Op::Write, 2, b"w"), "ticket 1, 2+1"),
         (0, Step::Fetch(32, 36), "Away { block: 2, ticket: 1 }"),
@@ -229,9 +235,35 @@ const DIRECT_WRITES_FAIL: Run = Run {
     ],
 };
 
+// A direct write of space that was never written maps it, and a sample from before it is stale then.
+const DIRECT_CONVERTS: Run = Run {
+    begin: CACHED,
+    fails: &[],
+    lines: &[
+        (0, Step::Look(2, 1), "cookie 0, errors 0, 2+1 unwritten 5"),
+        (1, Step::Look(2, 1), "cookie 0, errors 0, 2+1 unwritten 5"),
+        (0, Step::LendDirect(Op::Write, 2, b"w"), "ticket 0, 2+1"),
+        (1, Step::Store(32, b"late"), "Away { block: 2, ticket: 0 }"),
+        (0, Step::Back, "done, 1 of 1 | wwwwwwwwwwwwwwww"),
+        (1, Step::Store(32, b"late"), "Stale { sample: 0, now: 1 }"),
+        (1, Step::Look(2, 1), "cookie 1, errors 0, 2+1 mapped 5"),
+        (1, Step::Store(32, b"late"), "Cold { block: 2 }"),
+        (1, Step::ReadNow(2, b"#"), "read 1 | wwwwwwwwwwwwwwww"),
+        (1, Step::LendCold(2, 1), "ticket 1, 2+1"),
+        (1, Step::Back, "done, 1 of 1"),
+        (1, Step::Store(32, b"late"), "ok"),
+        (0, Step::Fetch(32, 48), "latewwwwwwwwwwww"),
+    ],
+};
+
 #[test]
 fn pages_of_a_caller_come_back(rt: HostRuntime) -> Result<(), Fail> {
-    for run in [&DIRECT_READS, &DIRECT_WRITES, &DIRECT_WRITES_FAIL] {
+    for run in [
+        &DIRECT_READS,
+        &DIRECT_WRITES,
+        &DIRECT_WRITES_FAIL,
+        &DIRECT_CONVERTS,
+    ] {
         play(&rt, rt.alloc(), run)?;
     }
     Ok(())
