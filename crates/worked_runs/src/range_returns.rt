@@ -134,9 +134,44 @@ const CONVERTED: Run = Run {
     ],
 };
 
+// The other caller stores into such space while it is away: its bytes are kept where the write fails, and where it does
+// not, and the block is written once more for them.
+const CONVERTED_UNDER_STORES: Run = Run {
+    begin: CACHED,
+    fails: &[1],
+    lines: &[
+        (0, Step::Look(2, 1), "cookie 0, errors 0, 2+1 unwritten 5"),
+        (1, Step::Look(2, 1), "cookie 0, errors 0, 2+1 unwritten 5"),
+        (0, Step::Store(37, b"mid"), "ok"),
+        (0, Step::LendDirty(2, 1), "ticket 0, 2+1"),
+        (1, Step::Store(32, b"late"), "ok"),
+        (0, Step::Back, "failed, 0 of 1, 0 written"),
+        (0, Step::Look(2, 1), "cookie 0, errors 1, 2+1 unwritten 5"),
+        (1, Step::Drop(2, 1), "0"),
+        (1, Step::Fetch(32, 48), "late.mid........"),
+        (0, Step::LendDirty(2, 1), "ticket 1, 2+1"),
+        (1, Step::Store(37, b"MID!"), "ok"),
+        (0, Step::Back, "done, 1 of 1, 1 written"),
+        (1, Step::Store(32, b"x"), "Stale { sample: 0, now: 1 }"),
+        (1, Step::Look(2, 1), "cookie 1, errors 1, 2+1 mapped 5"),
+        (1, Step::Drop(2, 1), "0"),
+        (1, Step::Fetch(32, 48), "late.MID!......."),
+        (1, Step::LendDirty(2, 1), "ticket 2, 2+1"),
+        (1, Step::Back, "done, 1 of 1, 1 written"),
+        (0, Step::Look(2, 1), "cookie 1, errors 1, 2+1 mapped 5"),
+        (0, Step::Drop(2, 1), "1"),
+        (0, Step::ReadNow(2, b"#"), "read 1 | late.MID!......."),
+    ],
+};
+
 #[test]
 fn writes_of_dirty_blocks_come_back(rt: HostRuntime) -> Result<(), Fail> {
-    for run in [&WRITTEN, &WRITTEN_FAILS, &CONVERTED] {
+    for run in [
+        &WRITTEN,
+        &WRITTEN_FAILS,
+        &CONVERTED,
+        &CONVERTED_UNDER_STORES,
+    ] {
         play(&rt, rt.alloc(), run)?;
     }
     Ok(())
