@@ -59,6 +59,46 @@ const STRAIGHT_FAILS: Run = Run {
     ],
 };
 
+// What is no mapped block asks for no judgement: the first one, which fails, is that of a mapped block.
+const STRAIGHT_UNJUDGED: Run = Run {
+    begin: DAX,
+    fails: &[1],
+    lines: &[
+        (0, Step::Look(2, 6), "cookie 0, errors 0, 2+1 unwritten 5"),
+        (0, Step::DaxGet(32, 36), "...."),
+        (0, Step::DaxZero(32, 40), "ok"),
+        (0, Step::Look(3, 6), "cookie 0, errors 0, 3+3 hole"),
+        (0, Step::DaxGet(60, 68), "........"),
+        (0, Step::DaxZero(60, 68), "ok"),
+        (0, Step::Look(0, 6), "cookie 0, errors 0, 0+2 mapped 2"),
+        (
+            0,
+            Step::DaxGet(0, 4),
+            "Poison { done: Done { lane: 3, blocks: 1, landed: 0, failed: true, before: 0, after: 1 } }",
+        ),
+        (0, Step::DaxGet(0, 4), "abcd"),
+    ],
+};
+
+// A write into space that was never written is judged. Where that fails it stays so, and reads as zeros.
+const STRAIGHT_UNMAPPED: Run = Run {
+    begin: DAX,
+    fails: &[1],
+    lines: &[
+        (0, Step::Look(2, 6), "cookie 0, errors 0, 2+1 unwritten 5"),
+        (
+            0,
+            Step::DaxPut(37, b"mid"),
+            "Poison { done: Done { lane: 3, blocks: 1, landed: 0, failed: true, before: 0, after: 1 } }",
+        ),
+        (0, Step::Look(2, 6), "cookie 0, errors 0, 2+1 unwritten 5"),
+        (0, Step::DaxGet(32, 48), "................"),
+        (0, Step::DaxPut(37, b"mid"), "ok"),
+        (0, Step::Look(2, 6), "cookie 1, errors 0, 2+1 mapped 5"),
+        (0, Step::DaxGet(32, 48), ".....mid........"),
+    ],
+};
+
 const SCARCE: Begin = Begin {
     mode: Mode::Dax,
     cookie: 0,
@@ -123,6 +163,8 @@ fn sectors_are_read_and_written_straight(rt: HostRuntime) -> Result<(), Fail> {
     for run in [
         &STRAIGHT,
         &STRAIGHT_FAILS,
+        &STRAIGHT_UNJUDGED,
+        &STRAIGHT_UNMAPPED,
         &STRAIGHT_FULL,
         &STRAIGHT_USED_UP,
     ] {
