@@ -40,6 +40,13 @@ pub(crate) struct Now {
     pub(crate) pages: Pages,
 }
 
+/// Why a turn for pages of the caller's own was refused, and these pages.
+#[derive(Drop)]
+pub(crate) struct Refused {
+    pub(crate) fault: EventFault,
+    pub(crate) pages: Pages,
+}
+
 /// What came back: what the transfer did, how many dirty blocks were written, and the caller's own pages.
 #[derive(Drop)]
 pub(crate) struct Back {
@@ -174,7 +181,7 @@ impl<'a, R: Abort + Wait> Caller<'a, R> {
     }
 
     // The turn that asks for blocks of the sample for these pages. What is lent is kept.
-    fn lend_pages(&mut self, op: Op, block: u64, pages: Pages) -> Result<Loan, EventFault>
+    fn lend_pages(&mut self, op: Op, block: u64, pages: Pages) -> Result<Loan, Refused>
         requires stands { Stands self.old.ground.now.cell self.old.seat self.old.sample self.old.loan }
         requires whole { All (IsWholePage 16) pages.items }
         ensures stands { Stands self.new.ground.now.cell self.new.seat self.new.sample self.new.loan }
@@ -201,7 +208,7 @@ impl<'a, R: Abort + Wait> Caller<'a, R> {
                 Ok(loan)
             }
             Ok(Direct::Zeros(pages)) => Ok(Loan::Zeros(pages)),
-            Err(DirectRefused { fault, pages: _ }) => Err(fault),
+            Err(DirectRefused { fault, pages }) => Err(Refused { fault, pages }),
         }
     }
 
@@ -211,7 +218,7 @@ impl<'a, R: Abort + Wait> Caller<'a, R> {
         op: Op,
         block: u64,
         fills: &[u8],
-    ) -> Result<Result<Loan, EventFault>, AllocError>
+    ) -> Result<Result<Loan, Refused>, AllocError>
         requires stands { Stands self.old.ground.now.cell self.old.seat self.old.sample self.old.loan }
         ensures stands { Stands self.new.ground.now.cell self.new.seat self.new.sample self.new.loan }
     {
@@ -325,7 +332,7 @@ impl<'a, R: Abort + Wait> Caller<'a, R> {
         lane: &mut Lane,
         block: u64,
         fills: &[u8],
-    ) -> Result<Result<Now, EventFault>, AllocError>
+    ) -> Result<Result<Now, Refused>, AllocError>
         requires stands { Stands self.old.ground.now.cell self.old.seat self.old.sample self.old.loan }
         ensures stands { Stands self.new.ground.now.cell self.new.seat self.new.sample self.new.loan }
     {
@@ -333,7 +340,7 @@ impl<'a, R: Abort + Wait> Caller<'a, R> {
         let mut pages = pages_of(self.alloc, fills)?;
         match self.read_turn(lane, block, &mut pages) {
             Ok(blocks) => Ok(Ok(Now { blocks, pages })),
-            Err(fault) => Ok(Err(fault)),
+            Err(fault) => Ok(Err(Refused { fault, pages })),
         }
     }
 }

@@ -1,5 +1,5 @@
 //! Answers of a range as text.
-use crate::range_loans::{Back, Loan, Now};
+use crate::range_loans::{Back, Loan, Now, Refused};
 use fault_device::Done;
 use io_model::{Extent, Kind};
 use iov_iter::Pages;
@@ -12,12 +12,18 @@ pub(crate) trait Told {
     fn told(&self, alloc: Global) -> Result<String, AllocError>;
 }
 
-impl<T: Told> Told for Result<T, EventFault> {
+impl<T: Told, E: Told> Told for Result<T, E> {
     fn told(&self, alloc: Global) -> Result<String, AllocError> {
         match self {
             Ok(answer) => answer.told(alloc),
-            Err(fault) => format!(in alloc; "{fault:?}"),
+            Err(refusal) => refusal.told(alloc),
         }
+    }
+}
+
+impl Told for EventFault {
+    fn told(&self, alloc: Global) -> Result<String, AllocError> {
+        format!(in alloc; "{self:?}")
     }
 }
 
@@ -61,6 +67,15 @@ fn add_pages(text: &mut String, pages: &Pages) -> Result<(), AllocError> {
         add_bytes(text, page.bytes.as_slice())?;
     }
     Ok(())
+}
+
+impl Told for Refused {
+    fn told(&self, alloc: Global) -> Result<String, AllocError> {
+        let Refused { fault, pages } = self;
+        let mut text = fault.told(alloc)?;
+        add_pages(&mut text, pages)?;
+        Ok(text)
+    }
 }
 
 fn kind_text(alloc: Global, kind: Kind) -> Result<String, AllocError> {

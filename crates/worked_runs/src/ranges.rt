@@ -50,18 +50,22 @@ const STORES: Run = Run {
         (0, Step::Store(37, b"mid"), "ok"),
         (0, Step::Fetch(32, 48), ".....mid........"),
         (0, Step::Drop(0, 6), "0"),
-        (0, Step::ReadNow(0, b"#"), "Dirty { block: 0 }"),
+        (
+            0,
+            Step::ReadNow(0, b"#"),
+            "Dirty { block: 0 } | ################",
+        ),
         (0, Step::ReadNow(3, b"#"), "read 1 | ................"),
         (0, Step::Look(0, 2), "cookie 0, errors 0, 0+2 mapped 2"),
         (
             0,
             Step::LendDirect(Op::Read, 0, b"##"),
-            "Dirty { block: 0 }",
+            "Dirty { block: 0 } | ################ | ################",
         ),
         (
             0,
             Step::LendDirect(Op::Write, 1, b"w"),
-            "Dirty { block: 1 }",
+            "Dirty { block: 1 } | wwwwwwwwwwwwwwww",
         ),
     ],
 };
@@ -240,7 +244,7 @@ const PAST_THE_CACHE: Run = Run {
         (
             0,
             Step::ReadNow(1, b"#"),
-            "Poison { done: Done { lane: 3, blocks: 1, landed: 0, failed: true, before: 0, after: 1 } }",
+            "Poison { done: Done { lane: 3, blocks: 1, landed: 0, failed: true, before: 0, after: 1 } } | ################",
         ),
         (0, Step::ReadNow(1, b"#"), "read 1 | ABCDEFGHIJKLMNOP"),
         (0, Step::Look(2, 6), "cookie 0, errors 0, 2+1 unwritten 5"),
@@ -254,7 +258,7 @@ const PAST_THE_CACHE: Run = Run {
         (
             0,
             Step::LendDirect(Op::Write, 2, b"z"),
-            "Stale { sample: 0, now: 1 }",
+            "Stale { sample: 0, now: 1 } | zzzzzzzzzzzzzzzz",
         ),
         (0, Step::Look(2, 6), "cookie 1, errors 0, 2+1 mapped 5"),
         (0, Step::ReadNow(2, b"#"), "read 1 | yyyyyyyyyyyyyyyy"),
@@ -374,7 +378,7 @@ const USED_UP: Run = Run {
         (
             0,
             Step::LendDirect(Op::Write, 2, b"y"),
-            "Worn { cookie: 18446744069414584320 }",
+            "Worn { cookie: 18446744069414584320 } | yyyyyyyyyyyyyyyy",
         ),
         (0, Step::Store(32, b"kept"), "ok"),
         (
