@@ -4,7 +4,6 @@ use Rattle.std.specs.Prelude.{All}
 use Rattle.std.proofs.lemmas.Bool.Decides.{nat_tests}
 use Rattle.iob_base.specs.DeviceBlock.{DeviceBlock}
 use Rattle.iob_base.specs.declared.TheConstants.{WORN}
-use Rattle.turn_cell.specs.Stakes.{total}
 use Rattle.turn_cell.proofs.Sums.{total-map}
 use Rattle.space_pool.specs.Claims.{ClaimsView, claims_with, numbers_of}
 use Rattle.space_pool.specs.Pool.{AreDistinct, HasSize}

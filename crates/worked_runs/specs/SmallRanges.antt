@@ -3,7 +3,6 @@ use Rattle.std.specs.Prelude.{◌≡◌, ℕ, Option, Some, None, IfSome, List, 
 use Rattle.iob_base.specs.declared.stamp.Mode.{Mode}
 use Rattle.fault_device.specs.Transfer.{CanTransfer}
 use Rattle.io_model.specs.declared.file.Extent.{Extent}
-use Rattle.io_model.specs.declared.file.Kind.{Kind}
 use Rattle.io_model.specs.declared.file.Kind.TheVariants.{Mapped, Unwritten}
 use Rattle.iov_iter.specs.Home.{AreHome}
 use Rattle.iov_iter.specs.IovView.{IovView}

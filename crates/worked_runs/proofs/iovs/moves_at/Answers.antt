@@ -1,4 +1,4 @@
-use Rattle.std.proofs.Common.{◌+◌, ◌≤◌, length, arith, ap, length-append, length-drop, length-take}
+use Rattle.std.proofs.Common.{length, arith, ap, length-append, length-drop, length-take}
 use Rattle.iov_iter.specs.IovView.{IovView}
 use Rattle.worked_runs.proofs.iovs.moves_at.Goals as goal
 

@@ -1,4 +1,4 @@
-use Rattle.std.proofs.Common.{List, sym, subst, ap}
+use Rattle.std.proofs.Common.{List, sym, subst}
 use Rattle.iob_base.specs.Layout.{Layout}
 use Rattle.io_model.specs.declared.file.Extent.{Extent}
 use Rattle.turn_cell.specs.Seats.{seat_claims}

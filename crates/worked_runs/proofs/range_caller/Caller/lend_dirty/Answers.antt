@@ -1,5 +1,4 @@
 use Rattle.turn_cell.specs.Seats.{seat_view}
-use Rattle.range_core.specs.RangeView.{LiesAt}
 use Rattle.worked_runs.proofs.CallerLemmas.{GoesOn, goes_on, small_lies, takes}
 use Rattle.worked_runs.proofs.range_caller.Caller.lend_dirty.Goals as goal
 
