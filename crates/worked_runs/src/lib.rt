@@ -1,4 +1,4 @@
-//! Tests that cross crates: runs that are worked out by hand, and each public call once.
+//! Tests that cross crates: public calls and whole scripts, with answers that are worked out by hand.
 #![tactic(auto)]
 
 #[cfg(test)]

@@ -223,7 +223,7 @@ const ZEROS: Run = Run {
     ],
 };
 
-// Transfers of a caller's own pages, and reads inside a turn, of which the second one on the lane's list fails.
+// Transfers of a caller's own pages, and reads inside a turn. The lane's third judgement fails.
 const PAST_THE_CACHE: Run = Run {
     begin: CACHED,
     fails: &[3],
@@ -272,7 +272,7 @@ const PAST_THE_CACHE: Run = Run {
 };
 
 #[test]
-fn each_event_answers_and_is_refused(rt: HostRuntime) -> Result<(), Fail> {
+fn events_answer_and_are_refused(rt: HostRuntime) -> Result<(), Fail> {
     for run in [&READS, &STORES, &ZEROS, &PROMISES, &FULL, &PAST_THE_CACHE] {
         play(&rt, rt.alloc(), run)?;
     }
