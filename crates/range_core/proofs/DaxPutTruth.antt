@@ -178,7 +178,7 @@ module _ (opening now next : RangeView) (history : List Entry) (stakes : List Ra
   -- a block of the run is of the sample's extent
   seen_kind : IsExtentOf now seen.extent → (k : ℕ) (c : Cell) → k < run.blocks → slice_get now.cells (run.first - now.first + k) ≡ Some c → is_mapped c.kind ≡ is_mapped seen.extent.kind
   seen_kind known k c l at =
-      let inside = through.extent.inside in
+      let begins = known.begins in
       let low = through.extent.low in
       let high = through.extent.high in
       let first = t.same_run.first in

@@ -44,7 +44,6 @@ module _ (opening now : RangeView) (history : List Entry) (stakes : List RangeSt
       let many = t.same_run.blocks in
       let low = bytes.lies.low in
       let high = bytes.lies.high in
-      let inside = bytes.extent.inside in
       let L : ℕ → Type 0 = λ size. LiesAt now (from / size) (blocks_met size from to) in
       let E : ℕ → Type 0 = λ size. (seen.extent.block ≤ from / size) × (from / size + blocks_met size from to ≤ seen.extent.block + seen.extent.length) in
       let extent : E now.geometry.block_size = subst E (sym same_size) (bytes.extent.low, bytes.extent.high) in
@@ -52,7 +51,7 @@ module _ (opening now : RangeView) (history : List Entry) (stakes : List RangeSt
         dax = t.same_run.mode ∙ bytes.dax;
         some = bytes.some;
         lies = subst L (sym same_size) (record { low = omega arith; some = bytes.lies.some; high = omega arith });
-        extent = record { inside = omega arith; low = extent.0; high = extent.1 };
+        extent = record { low = extent.0; high = extent.1 };
       }
 
   pub can_zero_dax : (given : List Entry) → Begins given history → WasGiven seen given → CanZeroDax now seen from to

@@ -77,7 +77,7 @@ lendable r claims seen op block pages can free =
     let d = neither (first_that_stops dirty block (run_of r block n)) _ b.1 in
     let same : seen.cookie ≡ r.cookie = eqb-true _ _ (not-false _ (where_true-not _ _ a.0)) in
     let known = can.known same in
-    let in_range = can.inside in
+    let in_range = known.begins in
     let low = can.low in
     let high = can.high in
     record {

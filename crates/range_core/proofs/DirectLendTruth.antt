@@ -73,7 +73,6 @@ can_lend opening now history seen stakes claims change pages t begins ready is =
       cached = t.same_run.mode ∙ ready.cached;
       lies = record { low = omega arith; some = lies.some; high = omega arith };
       whole = subst W (ap (λ g. g.block_size) (sym t.same_run.geometry)) ready.whole;
-      inside = let i = ready.inside in omega arith;
       low = ready.low;
       high = ready.high;
       known = known_sample opening now history stakes change.seen t (given_later change.seen seen history begins ready.given);

@@ -63,13 +63,17 @@ extent_at-kinds r s b most first kinds =
 pub keeps_sample : (now next : RangeView) (event : Event) (outcome : Outcome) → next.first ≡ now.first → now.cookie ≤ next.cookie → (next.cookie ≡ now.cookie → kinds_of next.cells ≡ kinds_of now.cells)
     → IsOfRangeNow now event outcome → IsOfRangeNow next event outcome
 keeps_sample now next event (Refused fault) first rises kinds s = tt
-keeps_sample now next event (Sampled sample) first rises kinds s = (
-  omega (arith, s.0),
-  λ e.
-      let stays : next.cookie ≡ now.cookie = omega (arith, s.0) in
-      let of : sample.cookie ≡ now.cookie = omega arith in
-      s.1 of ∙ sym (extent_at-kinds next now sample.extent.block (most_asked event sample) first (kinds stays)),
-)
+keeps_sample now next event (Sampled sample) first rises kinds s =
+    let past = s.past in
+    let begins = s.begins in
+    record {
+      past = omega arith;
+      begins = omega arith;
+      present = λ e.
+          let stays : next.cookie ≡ now.cookie = omega arith in
+          let of : sample.cookie ≡ now.cookie = omega arith in
+          s.present of ∙ sym (extent_at-kinds next now sample.extent.block (most_asked event sample) first (kinds stays));
+    }
 keeps_sample now next event (Counted n) first rises kinds s = tt
 keeps_sample now next event (Took sectors) first rises kinds s = tt
 keeps_sample now next event (Lending ticket n) first rises kinds s = tt
@@ -86,8 +90,8 @@ first_kind-drop (x ∷ cells) zero c e = let is : x ≡ c = cc in ap (λ (y : Ce
 first_kind-drop (x ∷ cells) (suc i) c e = first_kind-drop cells i c e
 
 -- the present sample is one of the range
-pub present_sample : (now : RangeView) (b most : ℕ) (sample : Sample) → sample ≡ sample_at now b most → IsOfRangeNow now (TakeSample b most) (Sampled sample)
-present_sample now b most sample e =
+pub present_sample : (now : RangeView) (b most : ℕ) (sample : Sample) → now.first ≤ b → sample ≡ sample_at now b most → IsOfRangeNow now (TakeSample b most) (Sampled sample)
+present_sample now b most sample low e =
     let S : Sample → Type 0 = λ s. IsOfRangeNow now (TakeSample b most) (Sampled s) in
     let le : now.cookie ≤ now.cookie = omega arith in
-    subst S (sym e) (le, λ _. refl)
+    subst S (sym e) (record { past = le; begins = low; present = λ _. refl })

@@ -148,7 +148,7 @@ module _ (opening now : RangeView) (seat : SeatView PoolEntry) (history : List E
         space = space_promised size (block - now.first) m now.cells now.space holes t.pool_claims_sectors;
       } in
       let le : now.cookie + 1 ≤ now.cookie + 1 = omega arith in
-      let gives : GivesPresent (next now seat seen m) e = (le, λ _. reserved_present now seat seen m holes least stripe) in
+      let gives : GivesPresent (next now seat seen m) e = record { past = le; begins = low; present = λ _. reserved_present now seat seen m holes least stripe } in
       changed_truth opening now (next now seat seen m) history e stakes number claims claims made (f now seat seen m) block m t here run counts
       (samples_next now (next now seat seen m) history e refl (omega arith) (λ same. absurd (omega arith)) t.samples_give_extents gives)
       (record { caller = refl; spare = refl; main = refl }) refl

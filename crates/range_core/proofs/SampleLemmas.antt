@@ -73,11 +73,12 @@ run_length-kinds [] n k c l e = absurd (cc)
 run_length-kinds (x ∷ cells) n k c l e = let z : 0 + k ≡ k = omega arith in run_from-kinds x.kind 0 (x ∷ cells) n k c l e ∙ ap (kind_after x.kind) z
 
 -- the extent of a look-up is one of the range
-pub extent_at-known : (r : RangeView) (b most : ℕ) → IsExtentOf r (extent_at r b most)
-extent_at-known r b most =
+pub extent_at-known : (r : RangeView) (b most : ℕ) → r.first ≤ b → IsExtentOf r (extent_at r b most)
+extent_at-known r b most begins =
     let low : ℕ = b - r.first in
     let within = run_length-within (drop low r.cells) (min most (STRIPE - b % STRIPE)) in
     record {
+      begins = begins;
       inside = λ some. omega (arith, within.0, length-drop low r.cells);
       stripe = omega (arith, within.1);
       kinds = λ k c l at. run_length-kinds (cells_from r b) (min most (STRIPE - b % STRIPE)) k c l (slice_get-drop low k r.cells ∙ at);
@@ -90,7 +91,7 @@ known_sample opening now history stakes sample t g same =
     let G : Outcome → Type 0 = λ o. IsOfRangeNow now g.entry.event o in
     let at : IsOfRangeNow now g.entry.event (Sampled sample) = subst G g.gave gives in
     let E : Extent → Type 0 = λ x. IsExtentOf now x in
-    subst E (sym (at.1 same)) (extent_at-known now sample.extent.block (most_asked g.entry.event sample))
+    subst E (sym (at.present same)) (extent_at-known now sample.extent.block (most_asked g.entry.event sample) at.begins)
 
 -- an entry that gives no sample and changes no kind, or raises the cookie, leaves samples right
 pub samples_next : (now next : RangeView) (history : List Entry) (e : Entry) → next.first ≡ now.first → now.cookie ≤ next.cookie → (next.cookie ≡ now.cookie → kinds_of next.cells ≡ kinds_of now.cells)

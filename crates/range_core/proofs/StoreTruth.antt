@@ -76,9 +76,10 @@ no_hole (Unwritten d) i e h = cc
 no_hole (Mapped d) i e h = cc
 
 -- a block of the sample's extent is no hole
-pub seen_space : (r : RangeView) (seen : Sample) (first k blocks : ℕ) (c : Cell) → IsExtentOf r seen.extent → r.first ≤ seen.extent.block → seen.extent.block ≤ first → first + blocks ≤ seen.extent.block + seen.extent.length → is_hole seen.extent.kind ≡ false → k < blocks
+pub seen_space : (r : RangeView) (seen : Sample) (first k blocks : ℕ) (c : Cell) → IsExtentOf r seen.extent → seen.extent.block ≤ first → first + blocks ≤ seen.extent.block + seen.extent.length → is_hole seen.extent.kind ≡ false → k < blocks
     → slice_get r.cells (first - r.first + k) ≡ Some c → c.kind ≢ Hole
-seen_space r seen first k blocks c known inside low high space l at h =
+seen_space r seen first k blocks c known low high space l at h =
+    let begins = known.begins in
     let place : seen.extent.block - r.first + (first + k - seen.extent.block) ≡ first - r.first + k = omega arith in
     let is : c.kind ≡ kind_after seen.extent.kind (first + k - seen.extent.block) = known.kinds (first + k - seen.extent.block) c (omega arith) (ap (slice_get r.cells) place ∙ at) in
     no_hole seen.extent.kind (first + k - seen.extent.block) space (sym is ∙ h)
@@ -116,7 +117,6 @@ module _ (opening now : RangeView) (history : List Entry) (stakes : List RangeSt
       let C : ℕ → Type 0 = λ n. IsByteRun (run_between n from to) in
       let met_blocks : IsByteRun run = subst C same cut in
       let T : ℕ → Type 0 = λ n. RangeTruth opening (after_bytes (stored (run_between n from to) bytes) now by (run_between n from to)) (history ++ e ∷ []) (set stakes number (Some claims, made ++ e ∷ [])) in
-      let inside = extent.inside in
       subst T (sym same)
       (bytes_truth opening now history e stakes number claims made (stored run bytes) by run t here folio.cached folio.blocks.low (stored_keeps run bytes)
       (record { caller_is = refl; failed = refl; lent = refl; changed = refl; stamps = refl; sample = tt })
@@ -127,7 +127,7 @@ module _ (opening now : RangeView) (history : List Entry) (stakes : List RangeSt
         holds = λ k was content l at h.
             let there : slice_get now.cells (run.first - now.first + k) ≡ Some was = ap (λ n. slice_get now.cells (run.first - n + k)) first ∙ at in
             let f = blocks k was l there in
-            let kind = seen_space now seen run.first k run.blocks was (known able.fresh) (omega arith) extent.low extent.high space l there in
+            let kind = seen_space now seen run.first k run.blocks was (known able.fresh) extent.low extent.high space l there in
             let B : Content → Type 0 = λ x. IsTrueAt size (run.first + k) (stored run bytes k was) x stakes in
             subst B (if_met (is_met size from to (run.first + k)) (overlaid size from to bytes (run.first + k) content) content (met-inside run met_blocks k l))
             (stored_true run met_blocks bytes all k l was content stakes kind f.0 f.1 h);

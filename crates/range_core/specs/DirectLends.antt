@@ -45,7 +45,6 @@ pub record CanLendDirect (r : RangeView) (claims : ClaimsView) (seen : Sample) (
   pub cached : r.mode ≡ Cached
   pub lies : LiesAt r block (length pages)
   pub whole : All (IsWholePage r.geometry.block_size) pages
-  pub inside : r.first ≤ seen.extent.block
   pub low : seen.extent.block ≤ block
   pub high : block + length pages ≤ seen.extent.block + seen.extent.length
   pub known : IsKnown r seen
@@ -109,7 +108,6 @@ pub record ReadyToLend (change : LendPages) (opening : RangeView) (history : Lis
   pub cached : opening.mode ≡ Cached
   pub lies : LiesAt opening change.block (length pages.items)
   pub whole : All (IsWholePage opening.geometry.block_size) pages.items
-  pub inside : opening.first ≤ change.seen.extent.block
   pub low : change.seen.extent.block ≤ change.block
   pub high : change.block + length pages.items ≤ change.seen.extent.block + change.seen.extent.length
   pub given : WasGiven change.seen history

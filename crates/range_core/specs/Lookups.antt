@@ -33,10 +33,15 @@ abbrev pub most_asked : Event → Sample → ℕ
 most_asked (TakeSample block most) sample = most
 most_asked _ sample = sample.extent.length
 
--- a sample is of a cookie that was, and where that is the present one, of the present extent
+-- a sample is of a block of the range, and of a cookie that was; where that is the present one, it is of the present extent
+pub record IsSampleOf (now : RangeView) (most : ℕ) (sample : Sample) : Type 0 where
+  pub past : sample.cookie ≤ now.cookie
+  pub begins : now.first ≤ sample.extent.block
+  pub present : sample.cookie ≡ now.cookie → sample.extent ≡ extent_at now sample.extent.block most
+
+-- the same of what came of an event, where it gave a sample
 abbrev pub IsOfRangeNow : RangeView → Event → Outcome → Type 0
-IsOfRangeNow now event (Sampled sample) =
-    (sample.cookie ≤ now.cookie) × (sample.cookie ≡ now.cookie → sample.extent ≡ extent_at now sample.extent.block (most_asked event sample))
+IsOfRangeNow now event (Sampled sample) = IsSampleOf now (most_asked event sample) sample
 IsOfRangeNow now event _ = Unit {0}
 
 -- the same of an entry's sample, where it gave one

@@ -18,6 +18,7 @@ pub record WasGiven (sample : Sample) (entries : List Entry) : Type 0 where
 
 -- the blocks of an extent have the kinds that it says, they are blocks of the range, and they lie in one stripe
 pub record IsExtentOf (r : RangeView) (extent : Extent) : Type 0 where
+  pub begins : r.first ≤ extent.block
   pub inside : 0 < extent.length → extent.block - r.first + extent.length ≤ length r.cells
   pub stripe : extent.length ≤ STRIPE - extent.block % STRIPE
   pub kinds : (k : ℕ) (c : Cell) → k < extent.length → slice_get r.cells (extent.block - r.first + k) ≡ Some c → c.kind ≡ kind_after extent.kind k

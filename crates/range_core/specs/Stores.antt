@@ -25,7 +25,6 @@ use Rattle.range_core.specs.declared.sample.Sample.{Sample}
 
 -- The blocks of a range that have bytes from one place up to another are blocks of an extent in it
 pub record LieInExtent (r : RangeView) (from to : ℕ) (extent : Extent) : Type 0 where
-  pub inside : r.first ≤ extent.block
   pub low : extent.block ≤ from / r.geometry.block_size
   pub high : from / r.geometry.block_size + blocks_met r.geometry.block_size from to ≤ extent.block + extent.length
 

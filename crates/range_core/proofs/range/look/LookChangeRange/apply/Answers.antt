@@ -1,4 +1,4 @@
-use Rattle.std.proofs.Common.{◌≡◌, refl}
+use Rattle.std.proofs.Common.{◌≡◌, refl, arith}
 use Rattle.range_core.specs.Lookups.{sample_at}
 use Rattle.range_core.specs.Looks.{sample_entry}
 use Rattle.range_core.specs.declared.entry.Entry.{Entry}
@@ -20,6 +20,6 @@ returns c s =
       done = record { change = refl; value = refl; claims_are = refl; sample_is = is; entry_is = refl };
       holds = quiet_truth s.opening was s.history entry s.stakes s.number claims s.made s.stands.holds s.stands.here
           (record { content = λ b x. refl; state = λ b x. refl; failed = refl; lent = refl; changed = refl; stamps = refl })
-          (present_sample was look.block look.most sample is)
+          (present_sample was look.block look.most sample (omega (arith, s.is_ready.low, s.stands.holds.same_run.first)) is)
           refl;
     }
