@@ -10,7 +10,7 @@ use io_model::{Extent, Kind};
 use iob_base::{Mode, Tag};
 use range_core::{
     AttachRun, DropPages, EventFault, Lender, Lent, Look, NextCaller, PreallocateRun, Range,
-    ReserveRun, Sample, UnreserveRun, WipeRun,
+    ReserveRun, SameCaller, Sample, UnreserveRun, WipeRun,
 };
 use std::alloc::Global;
 use std::process::Abort;
@@ -29,6 +29,46 @@ pub(crate) struct Caller<'a, R> {
     pub(crate) loan: Option<(Lender, Lent)>,
 }
 
+fn caller_at<'a, R>(
+    rt: &'a R,
+    alloc: Global,
+    ground: &'a Ground,
+    seat: TurnSeat<Range>,
+    by: Tag,
+) -> Caller<'a, R>
+    requires cell { (seat_view seat).cell ≡ (cell_view ground.now.cell).cell }
+    requires free { (seat_claims seat).held ≡ None }
+    ensures { Stands result.ground.now.cell result.seat result.sample result.loan }
+{
+    Caller {
+        rt,
+        alloc,
+        ground,
+        seat,
+        by,
+        sample: None,
+        loan: None,
+    }
+}
+
+/// A caller at a range, and a ticket of its own, whose seat works under the same number.
+pub(crate) fn caller_and_ticket<'a, R: Abort + Wait>(
+    rt: &'a R,
+    alloc: Global,
+    ground: &'a Ground,
+    mut seat: TurnSeat<Range>,
+) -> (Caller<'a, R>, Caller<'a, R>)
+    requires seat { seat_view seat ≡ first_seat (cell_view ground.now.cell).cell (2 ^ 63) }
+    requires claims { seat_claims seat ≡ first_claims }
+    ensures first { Stands result.0.ground.now.cell result.0.seat result.0.sample result.0.loan }
+    ensures second { Stands result.1.ground.now.cell result.1.seat result.1.sample result.1.loan }
+{
+    let other = ground.cell.split(&mut seat, 1, &mut SameCaller {});
+    let first = caller_at(rt, alloc, ground, seat, Tag { caller: 0, call: 7 });
+    let ticket = caller_at(rt, alloc, ground, other, Tag { caller: 0, call: 8 });
+    (first, ticket)
+}
+
 /// Two callers at a range.
 pub(crate) fn two_callers<'a, R: Abort + Wait>(
     rt: &'a R,
@@ -42,24 +82,8 @@ pub(crate) fn two_callers<'a, R: Abort + Wait>(
     ensures second { Stands result.1.ground.now.cell result.1.seat result.1.sample result.1.loan }
 {
     let other = ground.cell.split(&mut seat, 1, &mut NextCaller {});
-    let first = Caller {
-        rt,
-        alloc,
-        ground,
-        seat,
-        by: Tag { caller: 0, call: 7 },
-        sample: None,
-        loan: None,
-    };
-    let second = Caller {
-        rt,
-        alloc,
-        ground,
-        seat: other,
-        by: Tag { caller: 1, call: 8 },
-        sample: None,
-        loan: None,
-    };
+    let first = caller_at(rt, alloc, ground, seat, Tag { caller: 0, call: 7 });
+    let second = caller_at(rt, alloc, ground, other, Tag { caller: 1, call: 8 });
     (first, second)
 }
 
