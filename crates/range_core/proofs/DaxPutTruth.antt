@@ -315,7 +315,7 @@ can_put_dax opening now history stakes seen from to t bytes given v begins was r
 module _ {R F : Type 0} (step : F → ℕ → Done → F → Type 0) (change later : DaxPutBytes R F) (opening now next : RangeView) (history : List Entry) (stakes : List RangeStake) (number : ℕ) (claims : ClaimsView) (made : List Entry) where
   -- what is told of an answer, and the truth
   pub put_turn : (answer : Result (Unit {0}) EventFault)
-      → IfErr answer (RefusesPut (dax_put_refusal now change.seen) (λ done. step change.judge (blocks_met now.geometry.block_size change.from change.to) done later.judge) (later.judge ≡ change.judge))
+      → IfErr answer (RefusesPut (holes_met now change.from change.to) (dax_put_refusal now change.seen) (λ done. step change.judge (blocks_met now.geometry.block_size change.from change.to) done later.judge) (later.judge ≡ change.judge))
       → IfErr answer (λ e. LeavesPut (pool_cell change.space.now).opening (holes_met now change.from change.to) e now next) → OnErr answer (later.iov.now ≡ change.iov.now) → OnOk answer (dax_put_refusal now change.seen ≡ None)
       → OnOk answer (PutsDax (pool_cell change.space.now).opening now change.by change.seen change.from change.to (put_bytes change) next) → IsByteRun (run_between now.geometry.block_size change.from change.to) → IsSound next
       → CanPutDax now change.seen change.from change.to change.iov.now → RangeTruth opening now history stakes → get_elem? stakes number ≡ some (Some claims, made) → IsThrough opening change.seen change.from change.to

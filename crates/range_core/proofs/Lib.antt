@@ -4,6 +4,7 @@ pub mod AfterRun
 pub mod AttachTruth
 pub mod ByteRunLemmas
 pub mod CellLemmas
+pub mod ChangeLemmas
 pub mod ClaimedPages
 pub mod ConversionLemmas
 pub mod CookieLemmas

@@ -15,7 +15,7 @@ use Rattle.range_core.specs.declared.entry.Entry.{Entry}
 use Rattle.range_core.specs.declared.entry.Event.{Event}
 use Rattle.range_core.specs.declared.entry.Event.TheVariants.{Store, StoreZeros, DirectBack, Wipe, DaxPut, DaxZero}
 use Rattle.range_core.specs.declared.entry.Outcome.{Outcome}
-use Rattle.range_core.specs.declared.entry.Outcome.TheVariants.{Refused}
+use Rattle.range_core.specs.declared.entry.Outcome.TheVariants.{Counted, Finished, Took}
 
 -- the content of a block before the first entry: its sector's bytes where it is mapped, zeros elsewhere
 abbrev pub opening_bytes : ℕ → Option Cell → Content
@@ -33,23 +33,18 @@ content_back Write block kind pages done b content =
     if nat_lt b block then content else (if has_arrived kind done (b - block) then unwrap_or (slice_get pages (b - block)) content else content)
 
 -- the content of a block after an event that came about
-abbrev pub content_by : ℕ → ℕ → Event → Content → Content
-content_by size b (Store by seen from to bytes) content = if is_met size from to b then overlaid size from to bytes b content else content
-content_by size b (StoreZeros by seen from to) content = if is_met size from to b then overlaid size from to (replicate (to - from) 0) b content else content
-content_by size b (DirectBack by op ticket block kind pages done) content = content_back op block kind pages done b content
-content_by size b (Wipe by block blocks) content = if in_run block blocks b then zeros size else content
-content_by size b (DaxPut by seen from to bytes) content = if is_met size from to b then overlaid size from to bytes b content else content
-content_by size b (DaxZero by seen from to) content = if is_met size from to b then overlaid size from to (replicate (to - from) 0) b content else content
-content_by size b _ content = content
-
--- nothing is left by an event that was refused
-abbrev pub content_unless : Outcome → Content → Content → Content
-content_unless (Refused fault) before after = before
-content_unless _ before after = after
+abbrev pub content_by : ℕ → ℕ → Event → Outcome → Content → Content
+content_by size b (Store by seen from to bytes) Finished content = if is_met size from to b then overlaid size from to bytes b content else content
+content_by size b (StoreZeros by seen from to) Finished content = if is_met size from to b then overlaid size from to (replicate (to - from) 0) b content else content
+content_by size b (DirectBack by op ticket block kind pages done) Finished content = content_back op block kind pages done b content
+content_by size b (Wipe by block blocks) (Counted n) content = if in_run block blocks b then zeros size else content
+content_by size b (DaxPut by seen from to bytes) (Took sectors) content = if is_met size from to b then overlaid size from to bytes b content else content
+content_by size b (DaxZero by seen from to) Finished content = if is_met size from to b then overlaid size from to (replicate (to - from) 0) b content else content
+content_by size b _ _ content = content
 
 -- the content of a block after an entry
 abbrev pub content_after : ℕ → ℕ → Content → Entry → Content
-content_after size b content e = content_unless e.outcome content (content_by size b e.event content)
+content_after size b content e = content_by size b e.event e.outcome content
 
 -- the content of a block after a history, from its content before the first entry
 abbrev pub replayed : ℕ → ℕ → Content → List Entry → Content

@@ -1,5 +1,5 @@
 -- What a seat does at the pool for blocks that are to be written past the page cache.
-use Rattle.std.specs.Prelude.{◌≡◌, ℕ, true, false, Ok, Err}
+use Rattle.std.specs.Prelude.{◌≡◌, ℕ, ◌<◌, true, false, Ok, Err}
 use Rattle.fault_device.specs.declared.lane.Done.{Done}
 use Rattle.space_pool.specs.Claims.{with_more}
 use Rattle.space_pool.specs.Pool.{PoolView, no_space}
@@ -23,6 +23,6 @@ pub record GivesUp (opening : PoolView) (n : ℕ) (before after : PoolPlace) : T
 
 -- there were too few sectors, and no judgement was made; or a judgement failed, and the reservation was given up
 abbrev pub LosesHoles : PoolView → ℕ → (Done → Type 0) → Type 0 → PoolPlace → PoolPlace → EventFault → Type 0
-LosesHoles opening n told same before after (fault.NoSpace wanted found) = ReservesAt opening n (Err (no_space wanted found)) before after × same
+LosesHoles opening n told same before after (fault.NoSpace wanted found) = ReservesAt opening n (Err (no_space wanted found)) before after × (wanted ≡ n) × (found < n) × same
 LosesHoles opening n told same before after (fault.Poison done) = (done.failed ≡ true) × told done × GivesUp opening n before after
 LosesHoles opening n told same before after _ = ⊥

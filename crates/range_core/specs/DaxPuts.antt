@@ -78,13 +78,13 @@ pub record PutsDax (opening : PoolView) (before : RangeView) (by : Tag) (seen : 
   pub reserved : TurnsFor (holes_met before from to) (ReservesAt opening (holes_met before from to) (Ok tt)) (place_of before) promised
   pub took : TurnsFor (holes_met before from to) (TakesAt opening (holes_met before from to) sectors) promised (place_of after)
 
--- why nothing was written: for what hinders; else for want of memory or of space, before any judgement; else for a judgement, which tells that it failed
-abbrev pub RefusesPut : Option EventFault → (Done → Type 0) → Type 0 → EventFault → Type 0
-RefusesPut (Some refusal) told same e = (e ≡ refusal) × same
-RefusesPut None told same fault.NoMemory = same
-RefusesPut None told same (fault.NoSpace wanted found) = same
-RefusesPut None told same (fault.Poison done) = (done.failed ≡ true) × told done
-RefusesPut None told same _ = ⊥
+-- why nothing was written: for what hinders; else for want of memory, or of space for so many holes, before any judgement; else for a judgement, which tells that it failed
+abbrev pub RefusesPut : ℕ → Option EventFault → (Done → Type 0) → Type 0 → EventFault → Type 0
+RefusesPut holes (Some refusal) told same e = (e ≡ refusal) × same
+RefusesPut holes None told same fault.NoMemory = same
+RefusesPut holes None told same (fault.NoSpace wanted found) = (wanted ≡ holes) × (found < holes) × same
+RefusesPut holes None told same (fault.Poison done) = (done.failed ≡ true) × told done
+RefusesPut holes None told same _ = ⊥
 
 -- what a refused write leaves: the range as it was, but for its seat where that had turns at the pool
 abbrev pub LeavesPut : PoolView → ℕ → EventFault → RangeView → RangeView → Type 0
@@ -116,7 +116,7 @@ pub record PutMade {R F : Type 0} (change : DaxPutBytes R F) (before after : Ran
 
 -- It was refused
 pub record PutRefused {R F : Type 0} (step : F → ℕ → Done → F → Type 0) (change later : DaxPutBytes R F) (before after : RangeView) (claims : ClaimsView) (entry : Entry) (e : EventFault) : Type 0 where
-  pub refused : RefusesPut (dax_put_refusal before change.seen) (λ done. step change.judge (blocks_met before.geometry.block_size change.from change.to) done later.judge) (later.judge ≡ change.judge) e
+  pub refused : RefusesPut (holes_met before change.from change.to) (dax_put_refusal before change.seen) (λ done. step change.judge (blocks_met before.geometry.block_size change.from change.to) done later.judge) (later.judge ≡ change.judge) e
   pub leaves : LeavesPut (pool_cell change.space.now).opening (holes_met before change.from change.to) e before after
   pub nothing : later.iov.now ≡ change.iov.now
   pub entry_is : entry ≡ record { caller = claims.caller; event = DaxPut change.by change.seen change.from change.to (put_bytes change); outcome = Refused e }

@@ -44,6 +44,7 @@ pub mod Samples
 pub mod Space
 pub mod Spots
 pub mod Stakes
+pub mod StampedChanges
 pub mod Stamps
 pub mod Stores
 pub mod Through

@@ -3,6 +3,7 @@
 ghost use Rattle.range_core.specs.Conversions.{OnlyWritesMap};
 ghost use Rattle.range_core.specs.Loans.{LoanIsClaimed, OthersStayClaimed, ReturnFreesClaim};
 ghost use Rattle.range_core.specs.Quiet.{RefusedIsQuiet};
+ghost use Rattle.range_core.specs.StampedChanges.{OnlyStampsChange};
 ghost use Rattle.range_core.specs.TriedRefusals.{StaleComesFirst, AwayComesBeforeCold, WritebackHindersNoStore, WholeBlocksAreNotCold, SettledIsNotLent, DirtyIsNotReadDirectly, WornChangesNoKind, DirectLendsAreRefusedInOrder, PutsAreRefusedInOrder};
 ghost use Rattle.range_core.specs.Tried.{StoreLeavesZerosAround, WritebackMaps, FailedWritebackMakesDirty, StoreMeanwhileStaysDirty, WipeLeavesAHole, StoreStampsEachBlock, FailedWriteLandsAPrefix, FailedWriteLeavesUnwritten, FailedReadMisses, PutLeavesZerosAround};
 
@@ -30,6 +31,11 @@ pub fn refused_is_quiet()
 /// straight to its sector after a judgement that passed. No other event maps a block.
 pub fn only_writes_map()
     ensures { OnlyWritesMap }
+{}
+
+/// A block's content changes only by an entry that leaves a stamp on it, of a call that did its part or whose bytes landed.
+pub fn only_stamps_change()
+    ensures { OnlyStampsChange }
 {}
 
 /// A store into a block that was never written leaves zeros around its bytes, and makes it dirty.

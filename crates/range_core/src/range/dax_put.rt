@@ -167,7 +167,7 @@ impl Range {
             (λ done. Tells (blocks_met self.old.geometry.block_size from to) (lane_seen count tells lane.old) done (lane_seen count tells lane.new))) }
 
         // Why it is refused, and what that leaves.
-        ensures refused { IfErr result (RefusesPut (dax_put_refusal self.old seen)
+        ensures refused { IfErr result (RefusesPut (holes_met self.old from to) (dax_put_refusal self.old seen)
             (λ done. Tells (blocks_met self.old.geometry.block_size from to) (lane_seen count tells lane.old) done (lane_seen count tells lane.new))
             (lane_seen count tells lane.new ≡ lane_seen count tells lane.old)) }
         ensures unchanged { IfErr result (λ e. LeavesPut (pool_cell space.now).opening (holes_met self.old from to) e self.old self.new) }
@@ -207,7 +207,7 @@ impl Range {
         ensures judged { OnOk result (Passes (λ done. F.step judge.old (blocks_met self.old.geometry.block_size from to) done judge.new)) }
 
         // Why it is refused, and what that leaves.
-        ensures refused { IfErr result (RefusesPut (dax_put_refusal self.old seen)
+        ensures refused { IfErr result (RefusesPut (holes_met self.old from to) (dax_put_refusal self.old seen)
             (λ done. F.step judge.old (blocks_met self.old.geometry.block_size from to) done judge.new) (judge.new ≡ judge.old)) }
         ensures unchanged { IfErr result (λ e. LeavesPut (pool_cell space.now).opening (holes_met self.old from to) e self.old self.new) }
         ensures nothing { OnErr result (iov.new ≡ iov.old) }
