@@ -271,9 +271,37 @@ const PAST_THE_CACHE: Run = Run {
     ],
 };
 
+// A read of three blocks takes two runs, as the third block has no bytes of its own. The judgement of the first run
+// fails, and the second run has none. Asked for again, the first run is read.
+const FIRST_RUN_FAILS: Run = Run {
+    begin: CACHED,
+    fails: &[1],
+    lines: &[
+        (
+            0,
+            Step::ReadNow(0, b"###"),
+            "Poison { done: Done { lane: 3, blocks: 2, landed: 1, failed: true, before: 0, after: 1 } } | ################ | ################ | ################",
+        ),
+        (0, Step::ReadNow(2, b"#"), "read 1 | ................"),
+        (
+            0,
+            Step::ReadNow(0, b"###"),
+            "read 2 | abcdefghijklmnop | ABCDEFGHIJKLMNOP | ################",
+        ),
+    ],
+};
+
 #[test]
 fn events_answer_and_are_refused(rt: HostRuntime) -> Result<(), Fail> {
-    for run in [&READS, &STORES, &ZEROS, &PROMISES, &FULL, &PAST_THE_CACHE] {
+    for run in [
+        &READS,
+        &STORES,
+        &ZEROS,
+        &PROMISES,
+        &FULL,
+        &PAST_THE_CACHE,
+        &FIRST_RUN_FAILS,
+    ] {
         play(&rt, rt.alloc(), run)?;
     }
     Ok(())
