@@ -2,12 +2,14 @@
 #![tactic(auto)]
 
 mod fate;
+mod fits;
 mod lane;
 mod listed;
 mod moves;
 mod part;
 
 pub use fate::{Fate, Verdict};
+pub use fits::can_transfer;
 pub use lane::{Done, Lane};
 pub use listed::Listed;
 pub use part::Part;

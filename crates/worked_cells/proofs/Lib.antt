@@ -1,0 +1,4 @@
+mod CameBack
+mod Closing
+mod FreshSectors
+mod Holding

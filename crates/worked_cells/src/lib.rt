@@ -1,0 +1,15 @@
+//! Tests of the crates below a range: their public calls, with answers that are worked out by hand.
+#![tactic(auto)]
+
+#[cfg(test)]
+mod iovs;
+#[cfg(test)]
+mod locks;
+#[cfg(test)]
+mod maps;
+#[cfg(test)]
+mod pool;
+#[cfg(test)]
+mod small;
+#[cfg(test)]
+mod turns;

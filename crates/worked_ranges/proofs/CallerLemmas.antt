@@ -1,0 +1,70 @@
+-- A caller goes on after a turn, and takes what it is lent.
+use Rattle.std.proofs.Common.{◌≡◌, ℕ, ◌+◌, ◌<◌, ◌≤◌, List, [], ◌∷◌, ◌++◌, length, sym, ◌∙◌, subst, ap, append_assoc, arith}
+use Rattle.std.specs.Prelude.{Option, Some, None, IfSome}
+use Rattle.iob_base.specs.declared.stamp.Mode.{Mode}
+use Rattle.fault_device.specs.Transfer.{CanTransfer}
+use Rattle.io_model.specs.declared.file.Kind.{Kind}
+use Rattle.turn_cell.specs.Stakes.{Begins}
+use Rattle.turn_cell.specs.Views.{CellView, SeatView}
+use Rattle.range_core.proofs.SampleLemmas.{given_later}
+use Rattle.range_core.specs.ClaimsView.{ClaimsView, released}
+use Rattle.range_core.specs.Lends.{TakesHold}
+use Rattle.range_core.specs.RangeView.{LiesAt, RangeView}
+use Rattle.range_core.specs.Samples.{WasGiven}
+use Rattle.range_core.specs.declared.entry.Entry.{Entry}
+use Rattle.range_core.specs.declared.lending.Lender.{Lender}
+use Rattle.range_core.specs.declared.lending.Lent.{Lent}
+use Rattle.range_core.specs.declared.sample.Sample.{Sample}
+use Rattle.worked_ranges.specs.SmallRanges.{Holds, IsCaller, IsSmall}
+
+-- the seat has seen all that it had seen, and one entry more at least
+pub record GoesOn (before after : SeatView Entry) : Type 0 where
+  pub cell : after.cell ≡ before.cell
+  pub others : List Entry
+  pub entry : Entry
+  pub seen : after.seen ≡ (before.seen ++ others) ++ entry ∷ []
+
+begins : (before after : SeatView Entry) → GoesOn before after → Begins before.seen after.seen
+begins before after on = (on.others ++ on.entry ∷ [], sym (on.seen ∙ append_assoc before.seen on.others (on.entry ∷ [])))
+
+still_given : (before after : SeatView Entry) (sample : Option Sample) → GoesOn before after → IfSome sample (λ s. WasGiven s before.seen) → IfSome sample (λ s. WasGiven s after.seen)
+still_given before after None on given = given
+still_given before after (Some s) on given = given_later s before.seen after.seen (begins before after on) given
+
+pub goes_on : (cell : CellView RangeView) (before after : SeatView Entry) (claims left : ClaimsView) (sample : Option Sample) (loan : Option (Lender × Lent)) → IsCaller cell before claims sample loan → GoesOn before after → left ≡ claims
+    → IsCaller cell after left sample loan
+goes_on cell before after claims left sample loan was on same = record {
+  at_cell = on.cell ∙ was.at_cell;
+  given = still_given before after sample on was.given;
+  holds = let P : ClaimsView → Type 0 = λ c. Holds cell.opening c loan in subst P (sym same) was.holds;
+}
+
+pub takes : (cell : CellView RangeView) (before after : SeatView Entry) (claims left : ClaimsView) (sample : Option Sample) (loan : Option (Lender × Lent)) (lender : Lender) (lent : Lent) (kind : Kind) → IsCaller cell before claims sample loan
+    → GoesOn before after → TakesHold claims left lent lender kind → CanTransfer lent.parts.items → LiesAt cell.opening lent.block (length lent.parts.items) → IsCaller cell after left sample (Some (lender, lent))
+takes cell before after claims left sample loan lender lent kind was on t ready lies = record {
+  at_cell = on.cell ∙ was.at_cell;
+  given = still_given before after sample on was.given;
+  holds = record {
+    claim = t.claim;
+    held = ap (λ (c : ClaimsView). c.held) t.left_is;
+    lent_is = t.lent_is;
+    lender_is = t.lender_is;
+    ready = ready;
+    lies = lies;
+  };
+}
+
+-- blocks of a small range
+pub small_lies : (mode : Mode) (r : RangeView) (b n : ℕ) → IsSmall mode r → 0 < n → b + n ≤ 6 → LiesAt r b n
+small_lies mode r b n small some within =
+    let first : r.first ≡ 0 = small.first in
+    let blocks : length r.cells ≡ 6 = small.blocks in
+    record { low = omega arith; some = some; high = omega arith }
+
+pub gives_back : (cell : CellView RangeView) (before after : SeatView Entry) (claims left : ClaimsView) (sample : Option Sample) (loan : Option (Lender × Lent)) → IsCaller cell before claims sample loan → GoesOn before after → left ≡ released claims
+    → IsCaller cell after left sample None
+gives_back cell before after claims left sample loan was on gone = record {
+  at_cell = on.cell ∙ was.at_cell;
+  given = still_given before after sample on was.given;
+  holds = ap (λ (c : ClaimsView). c.held) gone;
+}

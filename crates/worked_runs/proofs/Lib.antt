@@ -1,6 +1,0 @@
-mod CallerLemmas
-mod CameBack
-mod Closing
-mod FreshSectors
-mod Holding
-mod SmallOpening
