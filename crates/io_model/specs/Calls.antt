@@ -1,7 +1,7 @@
 use Rattle.std.specs.Prelude.{ℕ, Bool, true, false, ◌||◌, List, map, [], length}
 use Rattle.std.specs.List.{concat, sum}
 use Rattle.io_model.specs.declared.script.Verb.{Verb}
-use Rattle.io_model.specs.declared.script.Verb.TheVariants.{Pread, Pwrite, Dread, Dwrite, Xread, Xwrite, Zero, Punch, Alloc, Wb, Sync, Drop}
+use Rattle.io_model.specs.declared.script.Verb.TheVariants.{Pread, Pwrite, Dread, Dwrite, Xread, Xwrite, Zero, Punch, Alloc, Wb, Sync, Drop, Trunc}
 
 -- where a data call begins, in bytes of its file
 abbrev pub offset_of : Verb → ℕ
@@ -17,6 +17,7 @@ offset_of (Alloc off _) = off
 offset_of (Wb _ _) = 0
 offset_of Sync = 0
 offset_of Drop = 0
+offset_of (Trunc size) = size
 
 -- the bytes that a call writes, its segments joined
 abbrev pub bytes_of : Verb → List ℕ
@@ -39,6 +40,7 @@ asked_of (Alloc _ n) = n
 asked_of (Wb _ _) = 0
 asked_of Sync = 0
 asked_of Drop = 0
+asked_of (Trunc _) = 0
 
 -- the lengths of a call's segments
 abbrev pub lengths_of : Verb → List ℕ

@@ -11,7 +11,7 @@ use Rattle.iob_base.specs.declared.answer.Stop.TheVariants.{Fault as Short}
 use Rattle.io_model.specs.Calls.{is_read, is_direct}
 use Rattle.io_model.specs.Text.{◌⋅◌}
 use Rattle.io_model.specs.declared.script.Verb.{Verb}
-use Rattle.io_model.specs.declared.script.Verb.TheVariants.{Pread, Pwrite, Dread, Dwrite, Xread, Xwrite, Zero, Punch, Alloc, Wb, Sync, Drop}
+use Rattle.io_model.specs.declared.script.Verb.TheVariants.{Pread, Pwrite, Dread, Dwrite, Xread, Xwrite, Zero, Punch, Alloc, Wb, Sync, Drop, Trunc}
 
 -- bytes in lower case hexadecimal, and no bytes as a dash
 abbrev pub hex_text : List ℕ → List ℕ
@@ -31,6 +31,7 @@ verb_text (Alloc _ _) = codes "alloc"
 verb_text (Wb _ _) = codes "wb"
 verb_text Sync = codes "sync"
 verb_text Drop = codes "drop"
+verb_text (Trunc _) = codes "trunc"
 
 -- a fault, and what comes after it; `Again` is never printed, since no script call goes without waiting
 abbrev pub fault_text : Fault → List ℕ → List ℕ

@@ -20,12 +20,13 @@ pub struct Extent {
     pub kind: Kind,
 }
 
-/// A file before the first call: its blocks, and the extents that are mapped or unwritten. All other
-/// blocks are holes.
+/// A file before the first call: its blocks, its size in bytes where it has one, and the extents that
+/// are mapped or unwritten. All other blocks are holes.
 #[derive(Drop)]
 pub struct FileSpec {
     pub mode: Mode,
     pub blocks: u64,
+    pub size: Option<u64>,
     pub extents: Items<Extent>,
 }
 
@@ -38,11 +39,30 @@ pub struct BlockEnd {
     pub journal: Items<Stamp>,
 }
 
-/// A file after the last call. The extents are merged, holes among them, and cover all its blocks.
+/// What a call did at the size of its file: it saw it, raised it, or cut it. Sizes are in bytes.
+#[derive(Clone, Copy)]
+pub enum SizeMark {
+    See { found: u64 },
+    Grow { to: u64 },
+    Cut { to: u64 },
+}
+
+/// One turn of a call at the size of its file: who made the call, its number, and what it did.
+#[derive(Clone, Copy)]
+pub struct SizeStamp {
+    pub caller: u32,
+    pub call: u32,
+    pub mark: SizeMark,
+}
+
+/// A file after the last call. The extents are merged, holes among them, and cover all its blocks. The
+/// size and its stamps, in order, are those of a file that has one.
 #[derive(Drop)]
 pub struct FileEnd {
     pub extents: Items<Extent>,
     pub blocks: Items<BlockEnd>,
+    pub size: Option<u64>,
+    pub sizes: Items<SizeStamp>,
 }
 
 /// All files after the last call, and the sectors that no file has.

@@ -7,6 +7,6 @@ mod laws;
 mod run;
 mod script;
 
-pub use file::{BlockEnd, Extent, FileEnd, FileSpec, Kind, Unmounted};
+pub use file::{BlockEnd, Extent, FileEnd, FileSpec, Kind, SizeMark, SizeStamp, Unmounted};
 pub use run::{CallEnd, LaneEnd, Run};
 pub use script::{Call, Script, Verb};

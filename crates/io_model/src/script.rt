@@ -2,7 +2,7 @@
 use crate::file::FileSpec;
 use iob_base::{FileId, Geometry, Items};
 
-/// What a call does. Offsets and lengths are in bytes, but those of `Wb`, which are in blocks.
+/// What a call does. Offsets, lengths and sizes are in bytes, but those of `Wb`, which are in blocks.
 #[derive(Drop)]
 pub enum Verb {
     Pread {
@@ -47,6 +47,9 @@ pub enum Verb {
     },
     Sync,
     Drop,
+    Trunc {
+        size: u64,
+    },
 }
 
 /// One call line. Phases are counted from 1, and `first_page` is the number of the first user page

@@ -73,7 +73,7 @@ file_cause s w = first_of (
     ∷ [])
 
 abbrev pub file_with : Mode → ℕ → FileSpec
-file_with mode blocks = record { mode = mode; blocks = blocks; extents = [] }
+file_with mode blocks = record { mode = mode; blocks = blocks; size = None; extents = [] }
 
 abbrev pub with_one_file : SoFar → Word → FileSpec → SoFar
 with_one_file s name file = record s {

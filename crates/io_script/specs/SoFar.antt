@@ -1,4 +1,4 @@
-use Rattle.std.specs.Prelude.{ℕ, Bool, true, false, ◌&&◌, ◌==◌, nat_le, nat_lt, ◌+◌, List, [], slice_index_or, unwrap_or}
+use Rattle.std.specs.Prelude.{ℕ, Bool, true, false, ◌&&◌, ◌==◌, nat_le, nat_lt, ◌+◌, List, [], slice_index_or, unwrap_or, None}
 use Rattle.std.specs.List.{list_any}
 use Rattle.iob_base.specs.Layout.{Layout, layout}
 use Rattle.iob_base.specs.declared.stamp.Mode.TheVariants.{Cached}
@@ -92,7 +92,7 @@ may_begin Calls = true
 may_begin _ = false
 
 abbrev pub no_file : FileSpec
-no_file = record { mode = Cached; blocks = 0; extents = [] }
+no_file = record { mode = Cached; blocks = 0; size = None; extents = [] }
 
 abbrev pub file_at : List FileSpec → ℕ → FileSpec
 file_at files i = slice_index_or files i no_file

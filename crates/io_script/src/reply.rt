@@ -28,6 +28,7 @@ pub fn verb_word(verb: &Verb) -> &'static [u8]
         Verb::Wb { .. } => b"wb".as_slice(),
         Verb::Sync => b"sync".as_slice(),
         Verb::Drop => b"drop".as_slice(),
+        Verb::Trunc { .. } => b"trunc".as_slice(),
     }
 }
 

@@ -1,4 +1,4 @@
-use Rattle.std.specs.Prelude.{ℕ, Bool, ◌==◌, ◌||◌}
+use Rattle.std.specs.Prelude.{ℕ, Bool, ◌==◌, ◌||◌, ◌&&◌, nat_le, if◌then◌else◌}
 
 -- a power of two from 16 to 4096
 abbrev pub is_block_size : ℕ → Bool
@@ -7,3 +7,13 @@ is_block_size n = n == 16 || n == 32 || n == 64 || n == 128 || n == 256 || n == 
 -- how many blocks a folio may have
 abbrev pub is_folio_blocks : ℕ → Bool
 is_folio_blocks n = n == 1 || n == 2 || n == 4 || n == 8 || n == 16 || n == 32
+
+-- a power of two from 16 to the block size
+abbrev pub is_grain : ℕ → ℕ → Bool
+is_grain size n = is_block_size n && nat_le n size
+
+-- the power that a block size is of two
+abbrev pub shift_of : ℕ → ℕ
+shift_of size =
+    if size == 16 then 4 else (if size == 32 then 5 else (if size == 64 then 6 else (if size == 128 then 7 else (if size == 256 then 8
+    else (if size == 512 then 9 else (if size == 1024 then 10 else (if size == 2048 then 11 else 12)))))))

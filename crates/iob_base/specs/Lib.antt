@@ -7,3 +7,4 @@ pub mod Layout
 pub mod Lending
 pub mod Memory
 pub mod Outside
+pub mod Writer

@@ -1,4 +1,4 @@
-use Rattle.std.specs.Prelude.{◌≡◌, ℕ, ◌<◌, ◌≤◌, Option, Some, Result, List, [], ◌++◌, length, take, drop, OnErr, IfSome, MatchResult}
+use Rattle.std.specs.Prelude.{◌≡◌, ℕ, zero, suc, Bool, true, false, ◌<◌, ◌≤◌, Option, Some, Result, Ok, Err, List, [], ◌++◌, length, take, drop, OnErr, IfSome, MatchResult}
 use Rattle.iob_base.specs.Counts.{Rose}
 
 -- a count of faults does not fall in a call, and an error comes only where it rose
@@ -34,3 +34,14 @@ TakesTold before result piece now =
 -- where a sink tells the bytes taken, it tells the same after the call
 abbrev pub KeepsTold : Option (List ℕ) → Option (List ℕ) → Type 0
 KeepsTold before now = IfSome before (λ bytes. now ≡ Some bytes)
+
+-- whether a sink is finished after a write: no more where the write took a byte, and as before elsewhere
+abbrev pub finished_after_write : {E : Type 0} → Result ℕ E → Bool → Bool
+finished_after_write (Ok zero) before = before
+finished_after_write (Ok (suc n)) before = false
+finished_after_write (Err e) before = before
+
+-- whether a sink is finished after a finish: where that did not fail, and as before elsewhere
+abbrev pub finished_after_finish : {T E : Type 0} → Result T E → Bool → Bool
+finished_after_finish (Ok x) before = true
+finished_after_finish (Err e) before = before

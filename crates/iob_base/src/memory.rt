@@ -1,7 +1,7 @@
 //! A source and a sink in memory, which fail at the calls that they are told.
 ghost use Rattle.std.specs.Prelude.{◌≡◌, ℕ, ◌+◌, ◌≤◌, Some, true, false, min, length, take, drop, ◌++◌, is_err, IfOk, OnOk, OnErr};
 ghost use Rattle.iob_base.specs.Memory.{is_next_listed};
-ghost use Rattle.iob_base.specs.Outside.{HasCause, IsPieceLength, ReadsTold, TakesTold, KeepsTold};
+ghost use Rattle.iob_base.specs.Outside.{HasCause, IsPieceLength, ReadsTold, TakesTold, KeepsTold, finished_after_write, finished_after_finish};
 
 use crate::outside::{Failed, Sink, Source};
 use std::alloc::Global;
@@ -88,6 +88,7 @@ pub struct MemSink {
     failing: Vec<u64>,
     calls: u64,
     faults: u64,
+    finished: bool,
 }
 
 impl Model for MemSink {
@@ -95,7 +96,7 @@ impl Model for MemSink {
 
     ghost Value = { SinkView };
 
-    ghost view = { λ s. record { taken = s.taken.items; calls = s.calls; failing = s.failing.items; faults = s.faults } };
+    ghost view = { λ s. record { taken = s.taken.items; calls = s.calls; failing = s.failing.items; faults = s.faults; finished = s.finished } };
 }
 
 impl MemSink {
@@ -110,6 +111,7 @@ impl MemSink {
             failing,
             calls: 0,
             faults: 0,
+            finished: false,
         }
     }
 
@@ -135,12 +137,15 @@ impl Sink for MemSink {
 
     ghost faults = { λ s. s.faults };
 
+    ghost finished = { λ s. s.finished };
+
     fn write(&mut self, from: &[u8]) -> Result<usize, Failed>
         ensures bound { IfOk result (λ n. IsPieceLength n from.now) }
         ensures bytes { TakesTold (Some self.old.taken) result from.now (Some self.new.taken) }
+        ensures finished { self.new.finished ≡ finished_after_write result self.old.finished }
         ensures cause { HasCause self.old.faults result self.new.faults }
         ensures listed { OnOk result (is_next_listed self.old.failing self.old.calls ≡ false) }
-        ensures ok { IfOk result (λ n. (n ≡ length from.now) × (self.new ≡ sink_holds self.old (self.old.taken ++ from.now))) }
+        ensures ok { IfOk result (λ n. (n ≡ length from.now) × (self.new ≡ sink_holds self.old (self.old.taken ++ from.now) (finished_after_write result self.old.finished))) }
         ensures err { OnErr result (self.new ≡ sink_failed self.old) }
     {
         let fails = has_listed(self.failing.as_slice(), self.calls);
@@ -149,14 +154,18 @@ impl Sink for MemSink {
             self.faults = self.faults.saturating_add(1);
             return Err(Failed);
         }
+        if !from.is_empty() {
+            self.finished = false;
+        }
         Ok(from.len())
     }
 
     fn finish(&mut self) -> Result<(), Failed>
         ensures bytes { KeepsTold (Some self.old.taken) (Some self.new.taken) }
+        ensures finished { self.new.finished ≡ finished_after_finish result self.old.finished }
         ensures cause { HasCause self.old.faults result self.new.faults }
         ensures listed { is_err result ≡ is_next_listed self.old.failing self.old.calls }
-        ensures ok { OnOk result (self.new ≡ sink_holds self.old self.old.taken) }
+        ensures ok { OnOk result (self.new ≡ sink_holds self.old self.old.taken true) }
         ensures err { OnErr result (self.new ≡ sink_failed self.old) }
     {
         let fails = has_listed(self.failing.as_slice(), self.calls);
@@ -165,6 +174,7 @@ impl Sink for MemSink {
             self.faults = self.faults.saturating_add(1);
             return Err(Failed);
         }
+        self.finished = true;
         Ok(())
     }
 }

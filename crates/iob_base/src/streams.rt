@@ -43,39 +43,54 @@ impl<R: Read + Drop> Source for StdSource<R> {
     }
 }
 
-/// A writer of std as a sink. Contracts see the number of its faults.
+/// A writer of std as a sink. Contracts see the number of its faults, and whether it was finished since
+/// the last byte.
 #[derive(Drop)]
 pub struct StdSink<W: Write + Drop> {
     writer: W,
     faults: u64,
+    finished: bool,
 }
 
 impl<W: Write + Drop> Model for StdSink<W> {
-    ghost Value = { ℕ };
+    ghost use Rattle.iob_base.specs.Writer.{WriterView};
 
-    ghost view = { λ s. s.faults };
+    ghost Value = { WriterView };
+
+    ghost view = { λ s. record { faults = s.faults; finished = s.finished } };
 }
 
 impl<W: Write + Drop> StdSink<W> {
-    /// The sink over `writer`, with no fault yet.
+    ghost use Rattle.iob_base.specs.Writer.{new_writer};
+
+    /// The sink over `writer`, with no fault yet and not finished.
     pub fn new(writer: W) -> StdSink<W>
-        ensures { result ≡ 0 }
+        ensures { result ≡ new_writer }
     {
-        StdSink { writer, faults: 0 }
+        StdSink {
+            writer,
+            faults: 0,
+            finished: false,
+        }
     }
 }
 
 impl<W: Write + Drop> Sink for StdSink<W> {
     ghost taken = { λ _. None };
 
-    ghost faults = { λ s. s };
+    ghost faults = { λ s. s.faults };
+
+    ghost finished = { λ s. s.finished };
 
     fn write(&mut self, from: &[u8]) -> Result<usize, Failed> {
         if from.is_empty() {
             return Ok(0);
         }
         match self.writer.write(from) {
-            Ok(n) if n > 0 => Ok(n),
+            Ok(n) if n > 0 => {
+                self.finished = false;
+                Ok(n)
+            }
             _ => {
                 self.faults = self.faults.saturating_add(1);
                 Err(Failed)
@@ -85,7 +100,10 @@ impl<W: Write + Drop> Sink for StdSink<W> {
 
     fn finish(&mut self) -> Result<(), Failed> {
         match self.writer.flush() {
-            Ok(()) => Ok(()),
+            Ok(()) => {
+                self.finished = true;
+                Ok(())
+            }
             Err(_) => {
                 self.faults = self.faults.saturating_add(1);
                 Err(Failed)

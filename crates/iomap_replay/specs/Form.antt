@@ -84,9 +84,14 @@ is_first call = call.phase == 1 && (call.caller == 0 && (call.file.0 == 0 && cal
 abbrev pub asked_of : Call → Option Asked
 asked_of call = provided (is_first call) (range_read call.verb)
 
+-- a file has no size of its own
+abbrev pub is_unsized : Option ℕ → Bool
+is_unsized None = true
+is_unsized (Some size) = false
+
 -- the blocks and the extent of a file of the one form
 abbrev pub file_of : FileSpec → Option (ℕ × Extent)
-file_of file = provided (is_cached file.mode && is_few file.blocks) (option_map (λ e. (file.blocks, e)) (only file.extents))
+file_of file = provided (is_cached file.mode && (is_few file.blocks && is_unsized file.size)) (option_map (λ e. (file.blocks, e)) (only file.extents))
 
 abbrev pub job_with : Script → ℕ → Extent → Asked → Job
 job_with script blocks extent asked = record { device = device_of script; geometry = script.geometry; blocks = blocks; extent = extent; asked = asked }

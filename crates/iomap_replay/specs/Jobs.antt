@@ -1,4 +1,4 @@
-use Rattle.std.specs.Prelude.{◌≡◌, ℕ, true, List, [], ◌∷◌}
+use Rattle.std.specs.Prelude.{◌≡◌, ℕ, true, None, List, [], ◌∷◌}
 use Rattle.std.specs.List.{list_all}
 use Rattle.iob_base.specs.declared.stamp.Mode.TheVariants.{Cached}
 use Rattle.io_model.specs.declared.file.Extent.{Extent}
@@ -11,7 +11,7 @@ use Rattle.iomap_replay.specs.declared.job.Asked.{Asked}
 use Rattle.iomap_replay.specs.declared.job.Job.{Job}
 
 abbrev pub one_file : ℕ → Extent → FileSpec
-one_file blocks extent = record { mode = Cached; blocks = blocks; extents = extent ∷ [] }
+one_file blocks extent = record { mode = Cached; blocks = blocks; size = None; extents = extent ∷ [] }
 
 abbrev pub one_call : Asked → Call
 one_call asked = record { phase = 1; caller = 0; file = record { 0 = 0 }; first_page = 0; verb = Pread asked.off (asked.length ∷ []) }

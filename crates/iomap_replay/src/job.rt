@@ -84,7 +84,7 @@ fn lies_in(blocks: u64, device_blocks: u32, e: &Extent) -> bool
     is_mapped_on(device_blocks, e.kind, e.length)
 }
 
-/// The blocks and the extent of a cached file with one extent.
+/// The blocks and the extent of a cached file with one extent and no size.
 fn file_said(file: &FileSpec) -> Option<(u64, Extent)>
     ensures value { result ≡ file_of file.now }
     ensures facts { IfSome result (λ f. (file.now ≡ one_file f.0 f.1) × (1 ≤ f.0) × (f.0 ≤ 65536)) }
@@ -93,6 +93,9 @@ fn file_said(file: &FileSpec) -> Option<(u64, Extent)>
         return None;
     }
     if !is_few_blocks(file.blocks) {
+        return None;
+    }
+    if file.size.is_some() {
         return None;
     }
     match file.extents.as_slice() {

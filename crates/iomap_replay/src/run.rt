@@ -89,7 +89,13 @@ pub fn run_script(
             faults: lane.faults(),
         },
     )?;
-    assemble_run(alloc, end, FileEnd { extents, blocks }, free, lanes)
+    let file = FileEnd {
+        extents,
+        blocks,
+        size: None,
+        sizes: Items::new(alloc),
+    };
+    assemble_run(alloc, end, file, free, lanes)
 }
 
 /// Whether a reply is an error.

@@ -1,4 +1,4 @@
-use Rattle.std.specs.Prelude.{ℕ, List, [], ◌∷◌, Some, codes, replicate}
+use Rattle.std.specs.Prelude.{ℕ, List, [], ◌∷◌, Some, codes, replicate, None}
 use Rattle.iob_base.specs.declared.answer.Fault.TheVariants.{SyncEio}
 use Rattle.iob_base.specs.declared.answer.Reply.TheVariants.{Ok, Err}
 use Rattle.iob_base.specs.declared.answer.Stop.TheVariants.{Whole}
@@ -24,6 +24,8 @@ run = record {
   closes = answer (Err (SyncEio 0 1) 0) 1 ∷ [];
   ends = record {
     files = record {
+      size = None;
+      sizes = [];
       extents = extent 0 1 (Unwritten 0) ∷ [];
       blocks = record { sector = Some (filled 0); dirty = Some (cache_page (replicate 16 65)); journal = done 1 ∷ [] } ∷ [];
     } ∷ [];

@@ -1,4 +1,4 @@
-use Rattle.std.specs.Prelude.{ℕ, List, [], ◌∷◌, codes, replicate}
+use Rattle.std.specs.Prelude.{ℕ, List, [], ◌∷◌, codes, replicate, None}
 use Rattle.iob_base.specs.DeviceBlock.{device_block}
 use Rattle.iob_base.specs.declared.answer.Reply.TheVariants.{Ok}
 use Rattle.iob_base.specs.declared.answer.Stop.TheVariants.{Whole}
@@ -15,7 +15,7 @@ use Rattle.io_model.specs.declared.run.Run.{Run}
 abbrev pub script : Script
 script = record small {
   names = codes "g" ∷ [];
-  files = record { mode = Dax; blocks = 2; extents = extent 0 1 (Unwritten 4) ∷ [] } ∷ [];
+  files = record { mode = Dax; blocks = 2; size = None; extents = extent 0 1 (Unwritten 4) ∷ [] } ∷ [];
   calls = call (Xwrite 1 ((65 ∷ 66 ∷ 67 ∷ []) ∷ [])) ∷ call (Xread 0 (5 ∷ [])) ∷ call (Xwrite 1 ((68 ∷ []) ∷ [])) ∷ [];
 }
 
@@ -25,6 +25,8 @@ run = record {
   closes = answer (Ok 0 Whole) 0 ∷ [];
   ends = record {
     files = record {
+      size = None;
+      sizes = [];
       extents = extent 0 1 (Mapped 4) ∷ extent 1 1 Hole ∷ [];
       blocks = block_with (device_block 4 (0 ∷ 68 ∷ 66 ∷ 67 ∷ replicate 12 0)) (done 1 ∷ done 2 ∷ done 3 ∷ []) ∷ block_without [] ∷ [];
     } ∷ [];

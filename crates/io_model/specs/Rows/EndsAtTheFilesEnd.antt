@@ -1,4 +1,4 @@
-use Rattle.std.specs.Prelude.{ℕ, List, [], ◌∷◌, ◌++◌, codes, replicate}
+use Rattle.std.specs.Prelude.{ℕ, List, [], ◌∷◌, ◌++◌, codes, replicate, None}
 use Rattle.iob_base.specs.DeviceBlock.{device_block}
 use Rattle.iob_base.specs.declared.answer.Fault.TheVariants.{TooFar}
 use Rattle.iob_base.specs.declared.answer.Reply.TheVariants.{Ok, Err}
@@ -38,6 +38,8 @@ run = record {
   closes = answer (Ok 1 Whole) 1 ∷ [];
   ends = record {
     files = record {
+      size = None;
+      sizes = [];
       extents = extent 0 1 Hole ∷ extent 1 1 (Mapped 0) ∷ [];
       blocks = block_without [] ∷ block_with (device_block 0 (replicate 14 0 ++ 66 ∷ 67 ∷ [])) (done 1 ∷ done 2 ∷ done 5 ∷ []) ∷ [];
     } ∷ [];

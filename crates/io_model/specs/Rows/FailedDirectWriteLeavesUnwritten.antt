@@ -1,4 +1,4 @@
-use Rattle.std.specs.Prelude.{ℕ, List, [], ◌∷◌, codes, replicate}
+use Rattle.std.specs.Prelude.{ℕ, List, [], ◌∷◌, codes, replicate, None}
 use Rattle.iob_base.specs.DeviceBlock.{device_block}
 use Rattle.iob_base.specs.declared.answer.Fault.TheVariants.{Eio}
 use Rattle.iob_base.specs.declared.answer.Reply.TheVariants.{Ok, Err}
@@ -26,6 +26,8 @@ run = record {
   closes = answer (Ok 0 Whole) 0 ∷ [];
   ends = record {
     files = record {
+      size = None;
+      sizes = [];
       extents = extent 0 4 (Unwritten 0) ∷ [];
       blocks =
           block_with (device_block 0 (replicate 16 65)) (missed 1 ∷ done 2 ∷ [])

@@ -1,4 +1,4 @@
-use Rattle.std.specs.Prelude.{ℕ, List, [], ◌∷◌, codes, replicate}
+use Rattle.std.specs.Prelude.{ℕ, List, [], ◌∷◌, codes, replicate, None}
 use Rattle.iob_base.specs.declared.answer.Reply.TheVariants.{Ok}
 use Rattle.iob_base.specs.declared.answer.Stop.TheVariants.{Whole}
 use Rattle.io_model.specs.Rows.Parts.{small, cached, extent, call, answer, gave, done, block_with, block_without, filled, free_blocks, lane, outer_lanes}
@@ -22,6 +22,8 @@ run = record {
   closes = answer (Ok 0 Whole) 0 ∷ [];
   ends = record {
     files = record {
+      size = None;
+      sizes = [];
       extents = extent 0 1 (Mapped 5) ∷ extent 1 1 Hole ∷ extent 2 1 (Unwritten 6) ∷ [];
       blocks = block_with (filled 5) (done 1 ∷ []) ∷ block_without (done 1 ∷ done 2 ∷ []) ∷ block_with (filled 6) (done 2 ∷ []) ∷ [];
     } ∷ [];

@@ -1,4 +1,4 @@
-use Rattle.std.specs.Prelude.{ℕ, List, [], ◌∷◌, codes, replicate}
+use Rattle.std.specs.Prelude.{ℕ, List, [], ◌∷◌, codes, replicate, None}
 use Rattle.iob_base.specs.DeviceBlock.{device_block}
 use Rattle.iob_base.specs.declared.answer.Reply.TheVariants.{Ok}
 use Rattle.iob_base.specs.declared.answer.Stop.TheVariants.{Whole}
@@ -27,6 +27,8 @@ run = record {
   closes = answer (Ok 3 Whole) 1 ∷ [];
   ends = record {
     files = record {
+      size = None;
+      sizes = [];
       extents = extent 0 1 Hole ∷ extent 1 3 (Mapped 0) ∷ [];
       blocks = block_without [] ∷ written 0 ∷ written 1 ∷ written 2 ∷ [];
     } ∷ [];

@@ -1,4 +1,4 @@
-use Rattle.std.specs.Prelude.{ℕ, List, [], ◌∷◌, codes, replicate}
+use Rattle.std.specs.Prelude.{ℕ, List, [], ◌∷◌, codes, replicate, None}
 use Rattle.iob_base.specs.DeviceBlock.{device_block}
 use Rattle.iob_base.specs.declared.answer.Reply.TheVariants.{Ok}
 use Rattle.iob_base.specs.declared.answer.Stop.TheVariants.{Whole}
@@ -23,6 +23,8 @@ run = record {
   closes = answer (Ok 1 Whole) 1 ∷ [];
   ends = record {
     files = record {
+      size = None;
+      sizes = [];
       extents = extent 0 1 (Mapped 5) ∷ [];
       blocks = block_with (device_block 5 (238 ∷ 238 ∷ 65 ∷ 66 ∷ replicate 12 238)) (done 1 ∷ done 2 ∷ []) ∷ [];
     } ∷ [];

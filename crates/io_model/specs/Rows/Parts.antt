@@ -25,7 +25,7 @@ abbrev pub extent : ℕ → ℕ → Kind → Extent
 extent block length kind = record { block = block; length = length; kind = kind }
 
 abbrev pub cached : ℕ → List Extent → FileSpec
-cached blocks extents = record { mode = Cached; blocks = blocks; extents = extents }
+cached blocks extents = record { mode = Cached; blocks = blocks; size = None; extents = extents }
 
 -- iomap 1, dev 16 8 ee, folio 4: a device of 8 blocks of 16 bytes, each byte ee, and folios of 4 blocks.
 -- The one file that a script is to give has the name f.

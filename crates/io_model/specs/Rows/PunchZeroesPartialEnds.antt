@@ -1,4 +1,4 @@
-use Rattle.std.specs.Prelude.{ℕ, List, [], ◌∷◌, ◌++◌, codes, replicate}
+use Rattle.std.specs.Prelude.{ℕ, List, [], ◌∷◌, ◌++◌, codes, replicate, None}
 use Rattle.iob_base.specs.DeviceBlock.{device_block}
 use Rattle.iob_base.specs.declared.answer.Reply.TheVariants.{Ok}
 use Rattle.iob_base.specs.declared.answer.Stop.TheVariants.{Whole}
@@ -32,6 +32,8 @@ run = record {
   closes = answer (Ok 2 Whole) 2 ∷ [];
   ends = record {
     files = record {
+      size = None;
+      sizes = [];
       extents = extent 0 1 (Mapped 0) ∷ extent 1 1 Hole ∷ extent 2 1 (Mapped 2) ∷ [];
       blocks =
           block_with (device_block 0 (replicate 8 238 ++ replicate 8 0)) (done 1 ∷ done 2 ∷ [])

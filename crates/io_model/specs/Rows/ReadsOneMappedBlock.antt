@@ -1,4 +1,4 @@
-use Rattle.std.specs.Prelude.{ℕ, List, [], ◌∷◌, codes, replicate}
+use Rattle.std.specs.Prelude.{ℕ, List, [], ◌∷◌, codes, replicate, None}
 use Rattle.std.specs.List.{range_with_len}
 use Rattle.iob_base.specs.Layout.{layout}
 use Rattle.iob_base.specs.DeviceBlock.{device_block}
@@ -25,7 +25,7 @@ script = record {
   fill = 238;
   blocks = (2, counted) ∷ [];
   names = codes "f" ∷ [];
-  files = record { mode = Cached; blocks = 4; extents = extent 0 1 (Mapped 2) ∷ [] } ∷ [];
+  files = record { mode = Cached; blocks = 4; size = None; extents = extent 0 1 (Mapped 2) ∷ [] } ∷ [];
   faults = [];
   calls = record { phase = 1; caller = 0; file = record { 0 = 0 }; first_page = 0; verb = Pread 0 (16 ∷ []) } ∷ [];
 }
@@ -36,6 +36,8 @@ run = record {
   closes = answer (Ok 0 Whole) 0 ∷ [];
   ends = record {
     files = record {
+      size = None;
+      sizes = [];
       extents = extent 0 1 (Mapped 2) ∷ extent 1 3 Hole ∷ [];
       blocks = block_with (device_block 2 counted) (done 1 ∷ []) ∷ replicate 3 (block_without []);
     } ∷ [];

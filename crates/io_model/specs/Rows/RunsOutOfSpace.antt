@@ -1,4 +1,4 @@
-use Rattle.std.specs.Prelude.{ℕ, List, [], ◌∷◌, codes, replicate}
+use Rattle.std.specs.Prelude.{ℕ, List, [], ◌∷◌, codes, replicate, None}
 use Rattle.iob_base.specs.DeviceBlock.{device_block}
 use Rattle.iob_base.specs.declared.answer.Fault.TheVariants.{NoSpace}
 use Rattle.iob_base.specs.declared.answer.Reply.TheVariants.{Ok, Err}
@@ -30,6 +30,8 @@ run = record {
   closes = answer (Ok 4 Whole) 2 ∷ [];
   ends = record {
     files = record {
+      size = None;
+      sizes = [];
       extents = extent 0 1 Hole ∷ extent 1 4 (Mapped 0) ∷ extent 5 3 Hole ∷ [];
       blocks =
           block_without []

@@ -1,4 +1,4 @@
-use Rattle.std.specs.Prelude.{ℕ, List, [], ◌∷◌, codes, replicate}
+use Rattle.std.specs.Prelude.{ℕ, List, [], ◌∷◌, codes, replicate, None}
 use Rattle.iob_base.specs.declared.answer.Fault.TheVariants.{Eio}
 use Rattle.iob_base.specs.declared.answer.Reply.TheVariants.{Ok}
 use Rattle.iob_base.specs.declared.answer.Stop.TheVariants.{Fault as Short}
@@ -24,6 +24,8 @@ run = record {
   closes = answer (Ok 0 Whole) 0 ∷ [];
   ends = record {
     files = record {
+      size = None;
+      sizes = [];
       extents = extent 0 8 (Mapped 0) ∷ [];
       blocks =
           block_with (filled 0) []

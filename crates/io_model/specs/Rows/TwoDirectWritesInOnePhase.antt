@@ -1,4 +1,4 @@
-use Rattle.std.specs.Prelude.{ℕ, List, [], ◌∷◌, codes, replicate}
+use Rattle.std.specs.Prelude.{ℕ, List, [], ◌∷◌, codes, replicate, None}
 use Rattle.iob_base.specs.DeviceBlock.{device_block}
 use Rattle.iob_base.specs.declared.answer.Reply.TheVariants.{Ok}
 use Rattle.iob_base.specs.declared.answer.Stop.TheVariants.{Whole}
@@ -37,6 +37,8 @@ run_with journal byte = record {
   closes = answer (Ok 0 Whole) 0 ∷ [];
   ends = record {
     files = record {
+      size = None;
+      sizes = [];
       extents = extent 0 1 (Mapped 5) ∷ [];
       blocks = block_with (device_block 5 (replicate 16 byte)) journal ∷ [];
     } ∷ [];

@@ -1,4 +1,4 @@
-use Rattle.std.specs.Prelude.{ℕ, List, [], ◌∷◌, codes, replicate}
+use Rattle.std.specs.Prelude.{ℕ, List, [], ◌∷◌, codes, replicate, None}
 use Rattle.iob_base.specs.declared.answer.Alignment.TheVariants.{Offset, Segment}
 use Rattle.iob_base.specs.declared.answer.Fault.TheVariants.{NotAligned}
 use Rattle.iob_base.specs.declared.answer.Reply.TheVariants.{Ok, Err}
@@ -27,6 +27,8 @@ run = record {
   closes = answer (Ok 0 Whole) 0 ∷ [];
   ends = record {
     files = record {
+      size = None;
+      sizes = [];
       extents = extent 0 1 (Mapped 5) ∷ [];
       blocks = block_with (filled 5) [] ∷ [];
     } ∷ [];

@@ -186,6 +186,7 @@ pub fn take_file(alloc: Global, r: &mut Reader, w: &Words) -> Result<(), LineFau
     let file = FileSpec {
         mode: mode.unwrap_or(Mode::Cached),
         blocks,
+        size: None,
         extents: Items::new(alloc),
     };
     add_file(r, name, file)?;

@@ -1,4 +1,4 @@
-use Rattle.std.proofs.Common.{◌≡◌, suc, List, [], ◌∷◌, ◌++◌, length, sym, ◌∙◌, ap, subst}
+use Rattle.std.proofs.Common.{◌≡◌, suc, None, List, [], ◌∷◌, ◌++◌, length, sym, ◌∙◌, ap, subst}
 use Rattle.iob_base.specs.DeviceBlock.{DeviceBlock}
 use Rattle.io_model.specs.Contents.{device_bytes}
 use Rattle.io_model.specs.Right.{RunIsRight}
@@ -33,7 +33,7 @@ returns-clause-right g c =
     let new : RangeView = c.read_once.new.range in
     let lanes = c.insert.new.self.items in
     let free : List DeviceBlock = c.close-free.result.items in
-    let file : FileEnd = record { extents = c.in_ok-ended.ended.extents; blocks = c.in_ok-ended.ended.blocks } in
+    let file : FileEnd = record { extents = c.in_ok-ended.ended.extents; blocks = c.in_ok-ended.ended.blocks; size = None; sizes = c.new.result } in
     let many : length lanes ≡ 17 = ap length c.in_ok-insert.ensures.items ∙ ap suc c.requires.lanes in
     let left = c.in_ok-ended.ensures in
     let ends : IsEndOf file new = record { merged = left.merged; kinds = left.kinds; blocks = left.blocks } in
@@ -52,7 +52,7 @@ returns-clause-free g c =
     let lanes = c.insert.new.self.items in
     let own : List DeviceBlock = c.in_ok-own.own.items in
     let free : List DeviceBlock = c.close-free.result.items in
-    let file : FileEnd = record { extents = c.in_ok-ended.ended.extents; blocks = c.in_ok-ended.ended.blocks } in
+    let file : FileEnd = record { extents = c.in_ok-ended.ended.extents; blocks = c.in_ok-ended.ended.blocks; size = None; sizes = c.new.result } in
     let all : List DeviceBlock = blocks_beside (device_bytes script) (first_number job.extent.kind) job.extent.length job.device.blocks in
     let keeps = outcome_keeps script job end old new c.in_ok-end.ensures.outcome in
     let N : List DeviceBlock → Type 0 = λ ys. SameNumbers free ys in

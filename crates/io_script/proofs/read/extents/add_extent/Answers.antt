@@ -12,7 +12,7 @@ returns-clause-reader c =
     let files = c.args.r.now.files.items in
     let e = c.args.extent in
     let fits : e.block + e.length ≤ 65536 = omega (arith, c.requires.reader.small c.args.i, c.requires.blocks) in
-    let f : FileSpec = record { mode = c.index_mut.result.now.mode; blocks = c.index_mut.result.now.blocks; extents = c.push.new.self } in
+    let f : FileSpec = record { mode = c.index_mut.result.now.mode; blocks = c.index_mut.result.now.blocks; size = c.index_mut.result.now.size; extents = c.push.new.self } in
     let is : set files c.args.i f ≡ with_extent_at files c.args.i e = grind (arith, common_steps) in
     record {
       same = length-set files c.args.i f ∙ c.requires.reader.same;
