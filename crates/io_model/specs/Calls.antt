@@ -70,6 +70,7 @@ is_write _ = false
 abbrev pub is_zeroing : Verb → Bool
 is_zeroing (Zero _ _) = true
 is_zeroing (Punch _ _) = true
+is_zeroing (Trunc _) = true
 is_zeroing _ = false
 
 -- only data calls leave stamps
@@ -85,3 +86,32 @@ is_direct _ = false
 abbrev pub is_dwrite : Verb → Bool
 is_dwrite (Dwrite _ _) = true
 is_dwrite _ = false
+
+-- the call gives whole blocks of its range back: a punch, or a cut of the file's size
+abbrev pub is_wiping : Verb → Bool
+is_wiping (Punch _ _) = true
+is_wiping (Trunc _) = true
+is_wiping _ = false
+
+abbrev pub is_trunc : Verb → Bool
+is_trunc (Trunc _) = true
+is_trunc _ = false
+
+abbrev pub is_alloc : Verb → Bool
+is_alloc (Alloc _ _) = true
+is_alloc _ = false
+
+abbrev pub is_sync : Verb → Bool
+is_sync Sync = true
+is_sync _ = false
+
+-- a write through the page cache
+abbrev pub is_pwrite : Verb → Bool
+is_pwrite (Pwrite _ _) = true
+is_pwrite _ = false
+
+-- the call writes dirty blocks to the device, and counts them
+abbrev pub is_writeback : Verb → Bool
+is_writeback (Wb _ _) = true
+is_writeback Sync = true
+is_writeback _ = false

@@ -1,4 +1,4 @@
-use Rattle.std.specs.Prelude.{ℕ, ◌==◌, List, [], ◌∷◌, Option, Some, None, slice_get, replicate, if◌then◌else◌}
+use Rattle.std.specs.Prelude.{ℕ, ◌==◌, ◌-◌, ◌*◌, min, List, [], ◌∷◌, ◌++◌, take, Option, Some, None, slice_get, replicate, if◌then◌else◌}
 use Rattle.io_model.specs.Kinds.{kind_at, mapped_number}
 use Rattle.io_model.specs.declared.file.Extent.{Extent}
 use Rattle.io_model.specs.declared.file.FileSpec.{FileSpec}
@@ -37,6 +37,18 @@ blocks_of (Some file) = file.blocks
 abbrev pub file_blocks : Script → ℕ → ℕ
 file_blocks script f = blocks_of (slice_get script.files f)
 
--- the content of a file's block before the first call (iomap: holes and unwritten space read as zeros)
+-- the size of a file that has one
+abbrev pub size_of : Option FileSpec → Option ℕ
+size_of None = None
+size_of (Some file) = file.size
+
+-- a block's content with zeros from the file's size on
+abbrev pub cut_content : ℕ → Option ℕ → ℕ → Content → Content
+cut_content size None b content = content
+cut_content size (Some end) b content = take (min size (end - b * size)) content ++ zeros (size - min size (end - b * size))
+
+-- the content of a file's block before the first call (iomap: holes and unwritten space read as zeros, and so does what lies past the file's size)
 abbrev pub opening_content : Script → ℕ → ℕ → Content
-opening_content script f b = mapped_or_zeros script (mapped_number (kind_at (extents_of (slice_get script.files f)) b))
+opening_content script f b =
+    cut_content script.geometry.block_size (size_of (slice_get script.files f)) b
+    (mapped_or_zeros script (mapped_number (kind_at (extents_of (slice_get script.files f)) b)))

@@ -6,6 +6,7 @@ use Rattle.io_model.specs.Contents.{Content, zeros}
 use Rattle.io_model.specs.Effects.{replayed}
 use Rattle.io_model.specs.Kinds.{kind_at, mapped_number}
 use Rattle.io_model.specs.Lists.{each_from}
+use Rattle.io_model.specs.Ranges.{ranged_calls}
 use Rattle.io_model.specs.declared.run.Run.{Run}
 use Rattle.io_model.specs.declared.script.Script.{Script}
 
@@ -28,4 +29,4 @@ abbrev pub IsFinalContent : Script → Run → Type 0
 IsFinalContent script run =
     IsTrue (each_from (λ f file. each_from (λ b block.
     bytes_eq (final_content script.geometry.block_size (mapped_number (kind_at file.extents b)) block.sector block.dirty)
-    (replayed script f b block.journal)) 0 file.blocks) 0 run.ends.files)
+    (replayed script (ranged_calls script run) f b block.journal)) 0 file.blocks) 0 run.ends.files)

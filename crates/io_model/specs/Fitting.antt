@@ -14,6 +14,7 @@ use Rattle.io_model.specs.declared.file.BlockEnd.{BlockEnd}
 use Rattle.io_model.specs.declared.file.Extent.{Extent}
 use Rattle.io_model.specs.declared.file.FileEnd.{FileEnd}
 use Rattle.io_model.specs.declared.file.FileSpec.{FileSpec}
+use Rattle.io_model.specs.declared.file.SizeStamp.{SizeStamp}
 use Rattle.io_model.specs.declared.run.Run.{Run}
 use Rattle.io_model.specs.declared.script.Script.{Script}
 
@@ -36,14 +37,29 @@ abbrev pub has_page_size : ℕ → Option Page → Bool
 has_page_size size None = true
 has_page_size size (Some page) = length page.bytes == size
 
--- a block has a sector exactly where its kind has space; its sector and its dirty page are blocks
+-- a block has a sector exactly where its kind has space, and the sector has the number that the kind tells
+abbrev pub is_own_sector : Option DeviceBlock → Option ℕ → Bool
+is_own_sector None None = true
+is_own_sector None (Some d) = false
+is_own_sector (Some sector) None = false
+is_own_sector (Some sector) (Some d) = sector.number == d
+
+-- a block has the sector of its kind; its sector and its dirty page are blocks
 abbrev pub is_block_end : ℕ → List Extent → ℕ → BlockEnd → Bool
 is_block_end size extents b block =
-    same (is_some block.sector) (is_some (device_number (kind_at extents b))) && (has_size size block.sector && has_page_size size block.dirty)
+    is_own_sector block.sector (device_number (kind_at extents b)) && (has_size size block.sector && has_page_size size block.dirty)
+
+-- a file has a size at the end exactly where it had one, and stamps at its size only there
+abbrev pub is_size_end : Option ℕ → Option ℕ → List SizeStamp → Bool
+is_size_end None None stamps = length stamps == 0
+is_size_end None (Some now) stamps = false
+is_size_end (Some size) None stamps = false
+is_size_end (Some size) (Some now) stamps = true
 
 abbrev pub is_file_end : ℕ → FileSpec → FileEnd → Bool
 is_file_end size file end =
-    length end.blocks == file.blocks && (is_merged_from 0 file.blocks end.extents && each_from (is_block_end size end.extents) 0 end.blocks)
+    length end.blocks == file.blocks && (is_merged_from 0 file.blocks end.extents && (each_from (is_block_end size end.extents) 0 end.blocks
+    && is_size_end file.size end.size end.sizes))
 
 -- an answer that only calls which do not wait may give
 abbrev pub is_again : Fault → Bool

@@ -10,6 +10,7 @@ pub mod Kinds
 pub mod Lists
 pub mod Pages
 pub mod Parts
+pub mod Ranges
 pub mod Reads
 pub mod ReplyText
 pub mod Right

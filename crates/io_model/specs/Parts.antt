@@ -1,8 +1,4 @@
-use Rattle.std.specs.Prelude.{ℕ, Bool, ◌+◌, ◌-◌, ◌*◌, min, max, nat_lt}
-use Rattle.io_model.specs.Calls.{offset_of, asked_of}
-use Rattle.io_model.specs.Contents.{file_blocks}
-use Rattle.io_model.specs.declared.script.Script.{Script}
-use Rattle.io_model.specs.declared.script.Call.{Call}
+use Rattle.std.specs.Prelude.{ℕ, Bool, ◌&&◌, ◌==◌, ◌+◌, ◌-◌, ◌*◌, ◌/◌, min, max, nat_lt, if◌then◌else◌}
 
 -- bytes of a file, from one place up to another
 pub record Span : Type 0 where
@@ -15,26 +11,22 @@ span from to = record { from = from; to = to }
 abbrev pub span_length : Span → ℕ
 span_length s = s.to - s.from
 
--- where the file ends, in bytes
-abbrev pub file_end : Script → ℕ → ℕ
-file_end script f = file_blocks script f * script.geometry.block_size
-
--- the range of a data call: its bytes from its offset on, cut at the file's end
-abbrev pub range_of : Script → Call → Span
-range_of script call = span (offset_of call.verb) (min (offset_of call.verb + asked_of call.verb) (file_end script call.file.0))
+-- the bytes that a call asks from an offset on, cut at some place
+abbrev pub range_in : ℕ → ℕ → ℕ → Span
+range_in cut off asked = span off (min (off + asked) cut)
 
 -- what of a span lies in a block
 abbrev pub part_in : ℕ → Span → ℕ → Span
 part_in size s b = span (max s.from (b * size)) (min s.to ((b + 1) * size))
 
--- the part of a call in a block of its file
-abbrev pub part_of : Script → Call → ℕ → Span
-part_of script call b = part_in script.geometry.block_size (range_of script call) b
-
 -- a span has bytes in a block
 abbrev pub meets : ℕ → Span → ℕ → Bool
 meets size s b = nat_lt (part_in size s b).from (part_in size s b).to
 
--- a call touches a block of its file
-abbrev pub touches : Script → Call → ℕ → Bool
-touches script call b = meets script.geometry.block_size (range_of script call) b
+-- a span has all bytes of a block
+abbrev pub is_whole_in : ℕ → Span → ℕ → Bool
+is_whole_in size s b = (part_in size s b).from == b * size && (part_in size s b).to == (b + 1) * size
+
+-- how many blocks a span meets
+abbrev pub blocks_met : ℕ → Span → ℕ
+blocks_met size s = if nat_lt s.from s.to then ((s.to - 1) / size + 1) - s.from / size else 0
