@@ -16,3 +16,9 @@ pub mod ReplyText
 pub mod Right
 pub mod RunText
 pub mod Text
+pub mod Lawful
+pub mod Partition
+pub mod Conversion
+pub mod Space
+pub mod Budgets
+pub mod Sizes
