@@ -1,14 +1,14 @@
 -- What class exclusion means.
-use Rattle.std.proofs.Common.{◌≡◌, ℕ, ◌<◌, get_or, sym, refl, ap, ◌∙◌, arith, Option, None, Some}
+use Rattle.std.proofs.Common.{◌≡◌, ℕ, zero, suc, ◌<◌, List, [], ◌∷◌, get_or, sym, refl, ap, ◌∙◌, arith, Option, None, Some}
 use mathlib.Core.Option.{some}
 use lib.ListN.{get_elem?}
 use Rattle.atomic_table.specs.Table.{State}
 use Rattle.inode_lock.specs.declared.word.Class.{Class}
-use Rattle.inode_lock.specs.declared.word.Class.TheVariants.{Exclusive}
+use Rattle.inode_lock.specs.declared.word.Class.TheVariants.{Cached, Direct, Exclusive}
 use Rattle.inode_lock.specs.declared.steps.Known.{Known}
-use Rattle.inode_lock.specs.Word.{told}
-use Rattle.inode_lock.specs.Exclusion.{weight, ClassesExclude, HoldsShareAClass, ExclusiveIsAlone, WordTellsTheHolds}
-use Rattle.inode_lock.proofs.Words.{weight-same, class_in-told, class_number-injective}
+use Rattle.inode_lock.specs.Word.{told, holds_in}
+use Rattle.inode_lock.specs.Exclusion.{weight, holders, ClassesExclude, HoldsShareAClass, ExclusiveIsAlone, WordTellsTheHolds, FreeLockAdmitsAll}
+use Rattle.inode_lock.proofs.Words.{weight-same, class_in-told, class_number-injective, admits-free}
 use Rattle.inode_lock.proofs.Holders.{one_holds, two_hold}
 
 abbrev St : Type 0
@@ -45,3 +45,20 @@ exclusive_is_alone s h i j v w at held at' apart =
     let counted = h.counted Exclusive in
     let most = h.one_exclusive in
     nothing w.holds (λ d is. holds_share_a_class s h i j v w Exclusive d at held at' is) (omega arith)
+
+none_hold : (c : Class) (views : List Known) → ((i : ℕ) (v : Known) → get_elem? views i ≡ some v → v.holds ≡ None) → holders c views ≡ 0
+none_hold c [] free = refl
+none_hold c (x ∷ xs) free =
+    let is : weight c x.holds ≡ 0 = ap (weight c) (free zero x refl) in
+    let r = none_hold c xs (λ i v at. free (suc i) v at) in
+    omega arith
+
+pub free_lock_admits_all : FreeLockAdmitsAll
+free_lock_admits_all s h free c =
+    let n : ℕ = get_or s.words 0 0 in
+    let a = none_hold Cached s.views free in
+    let b = none_hold Direct s.views free in
+    let x = none_hold Exclusive s.views free in
+    let sum = h.all_counted in
+    let is : holds_in n ≡ 0 = omega arith in
+    admits-free c n is

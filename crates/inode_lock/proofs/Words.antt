@@ -1,5 +1,5 @@
 -- What the word tells after a take and after a leave.
-use Rattle.std.proofs.Common.{◌≡◌, ℕ, ◌+◌, ◌*◌, ◌/◌, ◌%◌, ◌<◌, ◌≤◌, Bool, true, false, cond, eqb, refl, arith, Some}
+use Rattle.std.proofs.Common.{◌≡◌, ℕ, ◌+◌, ◌*◌, ◌/◌, ◌%◌, ◌<◌, ◌≤◌, Bool, true, false, cond, eqb, refl, ap, arith, Some}
 use Rattle.std.proofs.lemmas.Bool.Decides.{nat_tests}
 use Rattle.inode_lock.specs.declared.word.Class.{Class}
 use Rattle.inode_lock.specs.declared.word.Class.TheVariants.{Cached, Direct, Exclusive}
@@ -86,3 +86,37 @@ class_number-injective Direct Exclusive e = absurd (omega arith)
 class_number-injective Exclusive Cached e = absurd (omega arith)
 class_number-injective Exclusive Direct e = absurd (omega arith)
 class_number-injective Exclusive Exclusive e = refl
+
+-- each class is one of the three
+weights-one : (c : Class) → weight Cached (Some c) + weight Direct (Some c) + weight Exclusive (Some c) ≡ 1
+weights-one Cached = refl
+weights-one Direct = refl
+weights-one Exclusive = refl
+
+-- the word tells holds of the three classes alone
+abbrev pub TellsAll : ℕ → Type 0
+TellsAll n = told Cached n + told Direct n + told Exclusive n ≡ holds_in n
+
+pub tells_all-joined : (c : Class) (n : ℕ) → excludes c n ≡ false → TellsAll n → TellsAll (word_of c (holds_in n + 1))
+tells_all-joined c n h all =
+    let fits = room (is_exclusive c) (class_number c) (n / 4294967296) (n % 4294967296) (omega arith) h in
+    let r : holds_in (word_of c (holds_in n + 1)) ≡ holds_in n + 1 = holds_in-word_of (class_number c) (n % 4294967296 + 1) fits in
+    let p = told-joined c Cached n h in
+    let q = told-joined c Direct n h in
+    let x = told-joined c Exclusive n h in
+    let one = weights-one c in
+    omega arith
+
+pub tells_all-left : (c : Class) (n m : ℕ) → 0 < told c n → m + 1 ≡ n → TellsAll n → TellsAll m
+tells_all-left c n m holds less all =
+    let some_left = some_hold (class_number c) (n / 4294967296) (n % 4294967296) holds in
+    let parts = parts_left n m some_left less in
+    let p = told-left c Cached n m holds less in
+    let q = told-left c Direct n m holds less in
+    let x = told-left c Exclusive n m holds less in
+    let one = weights-one c in
+    omega arith
+
+-- a word that tells no hold admits each class
+pub admits-free : (c : Class) (n : ℕ) → holds_in n ≡ 0 → excludes c n ≡ false
+admits-free c n free = ap (λ (r : ℕ). cond (eqb r 0) false (cond (eqb r 4294967295) true (cond (eqb (n / 4294967296) (class_number c)) (is_exclusive c) true))) free

@@ -6,6 +6,7 @@ use Rattle.inode_lock.specs.declared.word.Class.{Class}
 use Rattle.inode_lock.specs.declared.steps.Step.{Step}
 use Rattle.inode_lock.specs.declared.steps.Step.TheVariants.{Split}
 use Rattle.inode_lock.specs.declared.steps.Known.{Known}
+use Rattle.inode_lock.specs.Steps.{steps_of}
 
 -- the lock, the number of the seat there, the class that it holds, and all steps that it made, in order
 pub record LockView : Type 0 where
@@ -15,7 +16,7 @@ pub record LockView : Type 0 where
   pub steps : List Step
 
 abbrev pub view_of : Seat (Unit {0}) Known → LockView
-view_of s = record { lock = s.table_id; seat = s.id; holds = s.me.0.holds; steps = s.me.0.steps }
+view_of s = record { lock = s.table_id; seat = s.id; holds = s.me.0.holds; steps = steps_of s.me.0.steps }
 
 -- a seat that has made no step
 abbrev pub fresh : TableId → ℕ → LockView

@@ -25,10 +25,11 @@ mod turns;
 mod word;
 
 pub use laws::{
-    calls_count_their_steps, exclusive_is_alone, holds_share_a_class, word_tells_the_holds,
+    calls_count_their_steps, exclusive_is_alone, free_lock_admits_all, holds_share_a_class,
+    word_tells_the_holds,
 };
 pub use lock::InodeLock;
 pub use rule::Exclusion;
 pub use seats::{CachedHold, DirectHold, ExclusiveHold, LockBusy, LockSeat};
-pub use steps::{Known, Step};
+pub use steps::{Known, Placed, Step};
 pub use word::Class;

@@ -8,8 +8,8 @@ ghost use Rattle.inode_lock.specs.declared.word.Class.TheVariants.{Cached, Direc
 use crate::steps::Known;
 use atomic_table::{Play, Split, TableRule};
 
-/// The rule of a lock's word: the word tells a class and how many seats hold it, no seat holds another class, and one
-/// seat at most holds the exclusive class.
+/// The rule of a lock's word: the word tells a class and how many seats hold it, no seat holds another class, one seat at
+/// most holds the exclusive class, and each word that a seat found was the lock's word in that place.
 pub struct Exclusion;
 
 impl TableRule<(), Known, ()> for Exclusion {

@@ -23,9 +23,15 @@ pub enum Step {
     Split,
 }
 
+/// A step, and how many steps all seats of the lock had made at its word before. A split, which reads no word, has no place.
+pub struct Placed {
+    pub place: u64,
+    pub step: Step,
+}
+
 /// What a seat knows: the class that it holds, if any, and all steps that it made, in order.
 /// No value of it is made, since it is for the proofs alone.
 pub struct Known {
     pub holds: Option<Class>,
-    pub steps: LinkedList<Step>,
+    pub steps: LinkedList<Placed>,
 }

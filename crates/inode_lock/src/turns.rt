@@ -1,8 +1,9 @@
 //! What the calls are made of: a look, a take, one try of both, tries without end, and a leave.
-ghost use Rattle.std.specs.Prelude.{◌≡◌, ◌==◌, false, None, Some, IfErr, OnOk};
+ghost use Rattle.std.specs.Prelude.{◌≡◌, ◌==◌, [], ◌∷◌, false, None, Some, IfErr, OnOk};
 ghost use Rattle.inode_lock.specs.Word.{excludes};
-ghost use Rattle.inode_lock.specs.Steps.{looked, asked};
-ghost use Rattle.inode_lock.specs.View.{view_of};
+ghost use Rattle.inode_lock.specs.Steps.{held_after};
+ghost use Rattle.inode_lock.specs.View.{view_of, onward};
+ghost use Rattle.inode_lock.specs.declared.steps.Step.TheVariants.{Look, Take};
 ghost use Rattle.inode_lock.specs.Calls.{IsGranted, IsRefused, IsWon, IsLeft};
 
 use crate::lock::InodeLock;
@@ -38,7 +39,7 @@ impl InodeLock {
     fn look(&self, seat: &mut Seat) -> u64
         requires { seat.old.table_id ≡ self.now }
         ensures same { (seat.new.table_id ≡ seat.old.table_id) × (seat.new.id ≡ seat.old.id) }
-        ensures told { seat.new.me.0 ≡ looked result seat.old.me.0 }
+        ensures told { view_of seat.new ≡ onward (view_of seat.old) (Look result ∷ []) seat.old.me.0.holds }
     {
         self.table.shared.load::<Looks>(seat, 0)
     }
@@ -49,7 +50,7 @@ impl InodeLock {
         requires idle { seat.old.me.0.holds ≡ None }
         requires admits { excludes class read ≡ false }
         ensures same { (seat.new.table_id ≡ seat.old.table_id) × (seat.new.id ≡ seat.old.id) }
-        ensures told { seat.new.me.0 ≡ asked class result (result == read) seat.old.me.0 }
+        ensures told { view_of seat.new ≡ onward (view_of seat.old) (Take class result (result == read) ∷ []) (held_after class (result == read) seat.old.me.0.holds) }
     {
         let shared = &self.table.shared;
         let joined = class.joined(read);

@@ -1,7 +1,8 @@
 -- How a cell starts, and what is left at its end.
-use Rattle.std.proofs.Common.{◌≡◌, ◌≢◌, ℕ, zero, suc, List, [], ◌∷◌, Option, Some, None, refl, sym, ap, ◌∙◌, subst, arith}
+use Rattle.std.proofs.Common.{◌≡◌, ◌≢◌, ℕ, zero, suc, ◌+◌, List, [], ◌∷◌, All, length, Option, Some, None, refl, sym, ap, ◌∙◌, subst, arith}
 use mathlib.Core.Option.{some, some-injective, some-ne-none}
 use mathlib.Core.Logic.{dite}
+use Rattle.std.proofs.lemmas.List.Elements.{All-nil}
 use native.Mathlib.Decide.{ℕ_discrete}
 use lib.ListN.{get_elem?}
 use Rattle.atomic_table.specs.Table.{opening as opened, Final, Seen}
@@ -12,10 +13,10 @@ use Rattle.turn_cell.specs.Laws.{Stands}
 use Rattle.turn_cell.specs.Rule.{turning, at_home, stake_of, stakes_of, turn_of, share_of, whole_share, Fits, Ruled}
 use Rattle.turn_cell.specs.Seats.{place_view}
 use Rattle.turn_cell.specs.Steps.{IsIdle, first_view}
-use Rattle.turn_cell.specs.Views.{Closed}
+use Rattle.turn_cell.specs.Views.{Closed, WasHeld}
 use Rattle.turn_cell.proofs.Sums.{total-sole, total-alone}
 use Rattle.turn_cell.proofs.Beginnings.{begins-none}
-use Rattle.turn_cell.proofs.Fitting.{not-held}
+use Rattle.turn_cell.proofs.Fitting.{not-held, waited-more}
 use Rattle.turn_cell.proofs.Stakes.{map-there, tally-alone}
 use Rattle.turn_cell.proofs.Gate.{stands-here}
 use Rattle.turn_cell.proofs.Turning.{some-same}
@@ -27,6 +28,10 @@ module _ {T C E : Type 0} where
   all-fit : (value : T) (claims : C) (number : ℕ) (v : View T C E) → get_elem? (first_view claims ∷ []) number ≡ some v → Fits [] value v
   all-fit value claims zero v at = subst (Fits [] value) (some-injective (first_view claims) v at) (first-fits value claims)
   all-fit value claims (suc number) v at = absurd (some-ne-none v (sym at))
+
+  none-waited : (claims : C) (number : ℕ) (v : View T C E) → get_elem? (first_view claims ∷ []) number ≡ some v → All (WasHeld (0 + 0)) v.refused
+  none-waited claims zero v at = subst (λ (x : View T C E). All (WasHeld (0 + 0)) x.refused) (some-injective (first_view claims) v at) (All-nil (WasHeld (0 + 0)))
+  none-waited claims (suc number) v at = absurd (some-ne-none v (sym at))
 
   -- the table of a new cell meets the rule
   pub starts : (truth : T → T → List E → List (Stake C E) → Type 0) (value : T) (claims : C) → truth value value [] ((Some claims, []) ∷ []) → Ruled truth value (opened (0 ∷ []) (Some value ∷ []) (first_view claims))
@@ -40,6 +45,7 @@ module _ {T C E : Type 0} where
     fits = all-fit value claims;
     known = record { number = 0; view = first_view claims; here = refl; share = omega arith; all = refl };
     once = λ f. refl;
+    waited = λ number v at. none-waited claims number v at;
     holds = holds;
   }
 
@@ -79,6 +85,8 @@ module _ {T C E : Type 0} (truth : T → T → List E → List (Stake C E) → T
           once = λ f.
               ap (total f) known ∙ r.once f
               ∙ tally-alone f stakes id (Some claims) v.made stands.here alone;
+          refused = let long : length v.seen ≡ length r.history = ap length known in
+              waited-more (length r.history + total turn_of s.views) (length v.seen) v.refused (omega arith) (r.waited id v at);
         };
       }
 

@@ -1,5 +1,5 @@
 -- A compare and exchange at the gate wins it, or finds it held.
-use Rattle.std.proofs.Common.{◌≡◌, ◌≢◌, ℕ, ◌+◌, eqb, List, [], ◌∷◌, set, Option, Some, refl, sym, ap, ◌∙◌, subst, eq-eqb, ne_eqb, arith}
+use Rattle.std.proofs.Common.{◌≡◌, ◌≢◌, ℕ, ◌+◌, eqb, List, [], ◌∷◌, length, set, Option, Some, refl, sym, ap, ◌∙◌, subst, eq-eqb, ne_eqb, arith}
 use Rattle.std.specs.Prelude.{slice_index, slice_set, ◌==◌}
 use mathlib.Core.Option.{some, none}
 use mathlib.Core.Logic.{dite}
@@ -13,9 +13,9 @@ use Rattle.turn_cell.specs.Stakes.{Stake, total, Once}
 use Rattle.turn_cell.specs.Laws.{Stands}
 use Rattle.turn_cell.specs.Rule.{turning, at_home, stake_of, stakes_of, turn_of, share_of, Ruled}
 use Rattle.turn_cell.specs.Steps.{IsIdle, Tried, won_view, refused_view}
-use Rattle.turn_cell.proofs.Beginnings.{begins-self}
+use Rattle.turn_cell.proofs.Beginnings.{begins-self, begins-length}
 use Rattle.turn_cell.proofs.Stakes.{set-there}
-use Rattle.turn_cell.proofs.Fitting.{fits-set, known-set, stakes-same, turns-set, shares-set}
+use Rattle.turn_cell.proofs.Fitting.{waited-more, waited-next, waited-set, fits-set, known-set, stakes-same, turns-set, shares-set}
 
 either-hit : (n m : ℕ) → n ≡ 0 → either (eqb n 0) m n ≡ m
 either-hit n m e = ap (λ b. either b m n) (eq-eqb n 0 e)
@@ -69,6 +69,8 @@ module _ {T C E : Type 0} (truth : T → T → List E → List (Stake C E) → T
                 (λ j u _ there. r.fits j u there);
             known = record { number = id; view = w; here = set-there s.views id v w at; share = idle.share; all = refl };
             once = subst (λ stakes. Once r.history stakes) (sym same) r.once;
+            waited = waited-set (length r.history + total turn_of s.views) (length r.history + total turn_of (set s.views id w)) s.views id w (omega arith)
+                (waited-more (length r.history + total turn_of s.views) (length r.history + total turn_of (set s.views id w)) v.refused (omega arith) (r.waited id v at)) r.waited;
             holds = subst (truth opening r.value r.history) (sym same) r.holds;
           },
           record {
@@ -87,8 +89,10 @@ module _ {T C E : Type 0} (truth : T → T → List E → List (Stake C E) → T
     miss : (s : State (Option T) (View T C E)) → Ruled truth opening s → get_elem? s.views id ≡ some v → slice_index s.words 0 ≢ 0 → Goal s (slice_index s.words 0)
     miss s r at held =
         let n : ℕ = slice_index s.words 0 in
-        let w : View T C E = refused_view n v in
+        let turn : ℕ = length r.history in
+        let w : View T C E = refused_view n turn v in
         let gate : n ≡ total turn_of s.views = word-is s.words (total turn_of s.views) r.gate in
+        let one : n ≡ 1 = let h = r.one in let some_turn : ¬ (n ≡ 0) = held in omega arith in
         let turns : total turn_of (set s.views id w) ≡ total turn_of s.views = let t : total turn_of (set s.views id w) + turning v.held ≡ total turn_of s.views + turning v.held = turns-set s.views id v w at in omega arith in
         let same : stakes_of (set s.views id w) ≡ stakes_of s.views = stakes-same s.views id v w at refl in
         let fit = r.fits id v at in (
@@ -105,9 +109,12 @@ module _ {T C E : Type 0} (truth : T → T → List E → List (Stake C E) → T
             fits = fits-set r.history r.value s.views id w (record { seen = fit.seen; told = fit.told; spent = fit.spent; held = fit.held }) (λ j u _ there. r.fits j u there);
             known = known-set r.history s.views id v w at r.known (λ share all. (share, all));
             once = subst (λ stakes. Once r.history stakes) (sym same) r.once;
+            waited = waited-set (turn + total turn_of s.views) (turn + total turn_of (set s.views id w)) s.views id w (omega arith)
+                (waited-next (turn + total turn_of (set s.views id w)) n turn v.refused one (omega arith)
+                (waited-more (turn + total turn_of s.views) (turn + total turn_of (set s.views id w)) v.refused (omega arith) (r.waited id v at))) r.waited;
             holds = subst (truth opening r.value r.history) (sym same) r.holds;
           },
-          record { won = λ free. absurd (held free); refused = λ _. refl },
+          record { won = λ free. absurd (held free); refused = λ _. record { turn = turn; unseen = begins-length v.seen r.history fit.seen; held = one; me_is = refl } },
         )
 
     tries-idle : Allows (Ruled truth opening) 1 id (v, []) 0 (λ n. either (n == 0) 1 n) (Tried truth opening id claims v)

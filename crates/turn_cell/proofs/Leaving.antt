@@ -1,5 +1,5 @@
 -- The swap that frees the gate makes one entry, and keeps the rule.
-use Rattle.std.proofs.Common.{◌≡◌, ℕ, ◌+◌, ◌<◌, ◌≤◌, List, [], ◌∷◌, ◌++◌, set, Some, refl, sym, ap, ◌∙◌, subst, arith}
+use Rattle.std.proofs.Common.{◌≡◌, ℕ, ◌+◌, ◌<◌, ◌≤◌, List, [], ◌∷◌, ◌++◌, length, length-append, set, Some, refl, sym, ap, ◌∙◌, subst, arith}
 use Rattle.std.specs.Prelude.{slice_set}
 use mathlib.Core.Option.{some}
 use Rattle.atomic_table.specs.Table.{gives, Allows}
@@ -11,7 +11,7 @@ use Rattle.turn_cell.specs.Steps.{Left, left_view}
 use Rattle.turn_cell.proofs.Stakes.{set-there, once-more}
 use Rattle.turn_cell.proofs.Sums.{total-at, total-sole}
 use Rattle.turn_cell.proofs.Beginnings.{begins-self, begins-more, begins-then}
-use Rattle.turn_cell.proofs.Fitting.{not-held, fits-set, stakes-set, turns-set, shares-set}
+use Rattle.turn_cell.proofs.Fitting.{waited-more, waited-set, not-held, fits-set, stakes-set, turns-set, shares-set}
 use Rattle.turn_cell.proofs.Gate.{words-set, stands-here}
 
 -- What the seat of the turn knows as it frees the gate
@@ -82,6 +82,10 @@ module _ {T C E : Type 0} (truth : T → T → List E → List (Stake C E) → T
               });
           known = record { number = id; view = w; here = set-there s.views id v w at; share = turn.share; all = seen_now };
           once = subst (λ stakes. Once history stakes) (sym new_stakes) once;
+          waited =
+              let long : length history ≡ length r.history + 1 = length-append r.history (entry ∷ []) in
+              waited-set (length r.history + total turn_of s.views) (length history + total turn_of (set s.views id w)) s.views id w (omega arith)
+              (waited-more (length r.history + total turn_of s.views) (length history + total turn_of (set s.views id w)) v.refused (omega arith) (r.waited id v at)) r.waited;
           holds = subst (truth opening next history) (sym new_stakes) moved.holds;
         },
         record {

@@ -8,7 +8,7 @@ use Rattle.turn_cell.specs.Rule.{turning, at_home, stakes_of, turn_of, share_of,
 use Rattle.turn_cell.specs.Steps.{Looked, shorter, looked_view, joined_view}
 use Rattle.turn_cell.specs.Views.{longer}
 use Rattle.turn_cell.proofs.Beginnings.{begins-none, begins-shorter, begins-both, shorter-length}
-use Rattle.turn_cell.proofs.Fitting.{fits-set, known-set, stakes-same, turns-set, shares-set}
+use Rattle.turn_cell.proofs.Fitting.{waited-more, waited-set, fits-set, known-set, stakes-same, turns-set, shares-set}
 use Rattle.turn_cell.proofs.Gate.{words-set, word-is}
 
 module _ {T C E : Type 0} (truth : T → T → List E → List (Stake C E) → Type 0) (opening : T) where
@@ -33,6 +33,8 @@ module _ {T C E : Type 0} (truth : T → T → List E → List (Stake C E) → T
           fits = fits-set r.history r.value s.views id w (record { seen = fit.seen; told = begins-none r.history; spent = fit.spent; held = fit.held }) (λ j u _ there. r.fits j u there);
           known = known-set r.history s.views id v w at r.known (λ share all. (share, all));
           once = subst (λ stakes. Once r.history stakes) (sym same) r.once;
+          waited = waited-set (length r.history + total turn_of s.views) (length r.history + total turn_of (set s.views id w)) s.views id w (omega arith)
+              (waited-more (length r.history + total turn_of s.views) (length r.history + total turn_of (set s.views id w)) v.refused (omega arith) (r.waited id v at)) r.waited;
           holds = subst (truth opening r.value r.history) (sym same) r.holds;
         },
         record { compared = λ le. begins-shorter v.told v.seen r.history fit.told fit.seen le; me_is = refl },

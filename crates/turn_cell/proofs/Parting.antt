@@ -1,7 +1,8 @@
 -- A seat is cut in two, or takes in another, and the rule stays.
-use Rattle.std.proofs.Common.{◌≡◌, ℕ, ◌+◌, ◌-◌, ◌<◌, List, [], ◌∷◌, ◌++◌, set, Option, Some, None, refl, sym, ap, ◌∙◌, subst, ⊎_elim, arith}
+use Rattle.std.proofs.Common.{◌≡◌, ℕ, ◌+◌, ◌-◌, ◌<◌, List, [], ◌∷◌, ◌++◌, All, length, set, Option, Some, None, refl, sym, ap, ◌∙◌, subst, ⊎_elim, arith}
 use mathlib.Core.Option.{some, some-injective}
 use mathlib.Core.Logic.{dite}
+use Rattle.std.proofs.lemmas.List.Elements.{All-nil}
 use native.Mathlib.Decide.{ℕ_discrete}
 use lib.ListN.{get_elem?}
 use Rattle.atomic_table.specs.Table.{Me, Splits, Joins}
@@ -9,12 +10,13 @@ use Rattle.atomic_table.proofs.Lists.{at_snoc, at_longer, set_else}
 use Rattle.turn_cell.specs.declared.view.View.{View}
 use Rattle.turn_cell.specs.Stakes.{Stake, total, Begins, Once}
 use Rattle.turn_cell.specs.Laws.{KeepsCut, KeepsMerge}
+use Rattle.turn_cell.specs.Views.{WasHeld}
 use Rattle.turn_cell.specs.Rule.{turning, at_home, stake_of, stakes_of, turn_of, share_of, Fits, IsKnown, Ruled}
 use Rattle.turn_cell.specs.Steps.{IsIdle, kept_view, new_view, joined_view, spent_view, looked_view}
 use Rattle.turn_cell.proofs.Stakes.{set-there, once-cut, once-merge}
 use Rattle.turn_cell.proofs.Sums.{total-append, map-append}
 use Rattle.turn_cell.proofs.Beginnings.{begins-none, begins-longer, begins-of_shorter, longer-first, longer-second}
-use Rattle.turn_cell.proofs.Fitting.{not-held, fits-set, known-set, stakes-set, turns-set, shares-set}
+use Rattle.turn_cell.proofs.Fitting.{waited-more, waited-set, not-held, fits-set, known-set, stakes-set, turns-set, shares-set}
 use Rattle.turn_cell.proofs.Gate.{stands-here}
 
 module _ {T C E : Type 0} (truth : T → T → List E → List (Stake C E) → Type 0) (opening : T) where
@@ -50,6 +52,11 @@ module _ {T C E : Type 0} (truth : T → T → List E → List (Stake C E) → T
             (λ (same : b ≡ u). subst (Fits r.history r.value) same b_fits)
             (at_snoc views b u j there);
         known = record { number = known.number; view = known.view; here = at_longer views (b ∷ []) known.number known.view known.here; share = known.share; all = known.all };
+        waited = λ j u there. ⊎_elim
+            (λ (was : get_elem? views j ≡ some u). waited-set (length r.history + total turn_of s.views) (length r.history + total turn_of (views ++ b ∷ [])) s.views id a (omega arith)
+            (waited-more (length r.history + total turn_of s.views) (length r.history + total turn_of (views ++ b ∷ [])) v.refused (omega arith) (r.waited id v at)) r.waited j u was)
+            (λ (same : b ≡ u). subst (λ (x : View T C E). All (WasHeld (length r.history + total turn_of (views ++ b ∷ []))) x.refused) same (All-nil (WasHeld (length r.history + total turn_of (views ++ b ∷ [])))))
+            (at_snoc views b u j there);
         once = subst (λ l. Once r.history l) (sym stakes) (once-cut r.history (stakes_of s.views) id (Some claims) (Some kept) (Some given) v.made r.once stands.here);
         holds = subst (truth opening r.value r.history) (sym stakes) (keeps opening r.value r.history (stakes_of s.views) id v.made stands);
       }
@@ -92,6 +99,8 @@ module _ {T C E : Type 0} (truth : T → T → List E → List (Stake C E) → T
         shares = shares ∙ r.shares;
         fits = fits-set r.history r.value first other b b_fits (λ j u _ e. fits-set r.history r.value s.views id a a_fits (λ k x _ e'. r.fits k x e') j u e);
         known = known-joined r.history s.views id other v w a b at there apart (let p = idle.share in omega arith) fit.seen fit'.seen refl r.known;
+        waited = waited-set (length r.history + total turn_of s.views) (length r.history + total turn_of views) first other b (omega arith) (All-nil (WasHeld (length r.history + total turn_of views)))
+            (waited-set (length r.history + total turn_of s.views) (length r.history + total turn_of s.views) s.views id a (omega arith) (r.waited id v at) r.waited);
         once = subst (λ l. Once r.history l) (sym stakes) (once-merge r.history (stakes_of s.views) id other (Some mine) (Some theirs) (Some both) v.made w.made r.once apart stands.here stands'.here);
         holds = subst (truth opening r.value r.history) (sym stakes) (keeps opening r.value r.history (stakes_of s.views) id other v.made w.made stands apart stands'.here);
       }

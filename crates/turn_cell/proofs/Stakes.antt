@@ -1,10 +1,11 @@
 -- What seats claim and made, as one seat's stake changes, a seat is added, or one takes in another.
-use Rattle.std.proofs.Common.{◌≡◌, ◌≢◌, ℕ, zero, suc, ◌+◌, List, [], ◌∷◌, ◌++◌, map, set, Option, None, refl, sym, ap, ◌∙◌, arith}
+use Rattle.std.proofs.Common.{◌≡◌, ◌≢◌, ℕ, zero, suc, ◌+◌, ◌≤◌, List, [], ◌∷◌, ◌++◌, map, set, Option, Some, None, refl, sym, ap, ◌∙◌, arith}
 use mathlib.Core.Option.{some, some-injective, some-ne-none}
 use lib.ListN.{get_elem?}
 use Rattle.atomic_table.proofs.Lists.{set_else}
 use Rattle.turn_cell.specs.Stakes.{Stake, total, tally, Once}
-use Rattle.turn_cell.proofs.Sums.{total-append, total-set, total-alone}
+use Rattle.turn_cell.specs.Laws.{Stands}
+use Rattle.turn_cell.proofs.Sums.{total-append, total-set, total-at, total-alone}
 
 module _ {A : Type 0} where
   pub set-there : (xs : List A) (i : ℕ) (a b : A) → get_elem? xs i ≡ some a → get_elem? (set xs i b) i ≡ some b
@@ -55,3 +56,11 @@ module _ {C E : Type 0} where
   pub tally-alone : (f : E → ℕ) (stakes : List (Stake C E)) (id : ℕ) (claims : Option C) (made : List E) → get_elem? stakes id ≡ some (claims, made)
       → ((other : ℕ) (s : Stake C E) → other ≢ id → get_elem? stakes other ≡ some s → s ≡ (None, [])) → tally f stakes ≡ total f made
   tally-alone f stakes id claims made at alone = total-alone (λ (s : Stake C E). total f s.1) stakes id (claims, made) at (λ j s apart there. ap (λ (x : Stake C E). total f x.1) (alone j s apart there))
+
+module _ {T C E : Type 0} {truth : T → T → List E → List (Stake C E) → Type 0} {opening value : T} {history : List E} {stakes : List (Stake C E)} {number : ℕ} {claims : C} {made : List E} where
+  -- however entries are weighed, what a seat made weighs no more than the history
+  pub own-seen : Stands truth opening value history stakes number claims made → (f : E → ℕ) → total f made ≤ total f history
+  own-seen stands f =
+      let o : total f history ≡ total (λ (s : Stake C E). total f s.1) stakes = stands.once f in
+      let mine : total f made ≤ total (λ (s : Stake C E). total f s.1) stakes = total-at (λ (s : Stake C E). total f s.1) stakes number (Some claims, made) stands.here in
+      omega arith

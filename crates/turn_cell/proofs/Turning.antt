@@ -4,9 +4,10 @@ use Rattle.atomic_table.specs.Table.{Me, rest}
 use Rattle.turn_cell.specs.declared.view.View.{View}
 use Rattle.turn_cell.specs.Stakes.{Stake}
 use Rattle.turn_cell.specs.Laws.{Stands, Standing}
-use Rattle.turn_cell.specs.Steps.{IsIdle, Won, Left, won_view, refused_view, left_view}
+use Rattle.turn_cell.specs.Steps.{IsIdle, Won, Left, Refused, won_view, left_view}
 use Rattle.turn_cell.specs.Views.{SeatView, Turned}
 use Rattle.turn_cell.proofs.Leaving.{IsTurning}
+use Rattle.turn_cell.proofs.Stakes.{own-seen}
 
 pub some-same : {T : Type 0} (x y : T) → Some x ≡ Some y → x ≡ y
 some-same x y e = cc
@@ -17,9 +18,9 @@ second x (z ∷ zs) = z.1
 
 module _ {T C E : Type 0} where
   -- a seat whose compare and exchange was refused is idle
-  pub idle-refused : (word : ℕ) {me after : Me (Option T) (View T C E)} {claims : C} → IsIdle me claims → after ≡ (refused_view word me.0, []) → IsIdle after claims
-  idle-refused word {claims} idle is =
-      subst (λ (m : Me (Option T) (View T C E)). IsIdle m claims) (sym is) (record { slots = refl; held = idle.held; told = idle.told; claims_are = idle.claims_are; share = idle.share })
+  pub idle-refused : (word : ℕ) {me after : Me (Option T) (View T C E)} {claims : C} → IsIdle me claims → Refused me.0 word after → IsIdle after claims
+  idle-refused word {claims} idle refused =
+      subst (λ (m : Me (Option T) (View T C E)). IsIdle m claims) (sym refused.me_is) (record { slots = refl; held = idle.held; told = idle.told; claims_are = idle.claims_are; share = idle.share })
 
   -- a seat that freed the gate is idle
   pub idle-left : (v : View T C E) (entry : E) {after : Me (Option T) (View T C E)} {left : C} → after ≡ (left_view entry left v, []) → v.told ≡ [] → 0 < v.share → IsIdle after left
@@ -81,6 +82,7 @@ module _ {T C E : Type 0} (truth : T → T → List E → List (Stake C E) → T
       let made_is : after.made ≡ w.made ++ l.entry ∷ [] = made' ∙ ap (λ (m : Me (Option T) (View T C E)). m.0.made) l.me_is in
       let stood = subst (λ ms. Stands truth opening value w.seen l.stakes id claims ms) w_made l.stood in
       let P : List E × List E → Type 0 = λ p. Stands truth opening next p.0 (set l.stakes id (Some left, p.1)) id left p.1 in
+      let stands = subst P (λ i. (sym seen_is i, sym made_is i)) l.stands in
       record {
         others = others;
         entry = l.entry;
@@ -92,5 +94,6 @@ module _ {T C E : Type 0} (truth : T → T → List E → List (Stake C E) → T
         made_is = made_is ∙ ap (λ ms. ms ++ l.entry ∷ []) w_made;
         done = subst (λ h. does opening h value next l.entry) (sym w_seen) l.done;
         stood = subst (λ h. Stands truth opening value h l.stakes id claims before.made) (sym w_seen) stood;
-        stands = subst P (λ i. (sym seen_is i, sym made_is i)) l.stands;
+        stands = stands;
+        own = own-seen stands;
       }

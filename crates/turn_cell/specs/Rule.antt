@@ -1,10 +1,11 @@
 -- The rule of the table: what holds between any two steps.
-use Rattle.std.specs.Prelude.{◌≡◌, ℕ, zero, suc, ◌^◌, ◌<◌, ◌≤◌, List, [], ◌∷◌, map, Option, Some, None}
+use Rattle.std.specs.Prelude.{◌≡◌, ℕ, zero, suc, ◌+◌, ◌^◌, ◌<◌, ◌≤◌, List, [], ◌∷◌, All, length, map, Option, Some, None}
 use mathlib.Core.Option.{some, none}
 use lib.ListN.{get_elem?}
 use Rattle.atomic_table.specs.Table.{State}
 use Rattle.turn_cell.specs.declared.view.View.{View}
 use Rattle.turn_cell.specs.Stakes.{Stake, total, Begins, Once}
+use Rattle.turn_cell.specs.Views.{WasHeld}
 
 -- the whole share of a cell
 abbrev pub whole_share : ℕ
@@ -49,7 +50,7 @@ pub record IsKnown {T C E : Type 0} (history : List E) (views : List (View T C E
   pub share : 0 < view.share
   pub all : view.seen ≡ history
 
--- The gate counts the turns that run, of which there is at most one, and the value is home while none does; the shares add up; each entry was made once; and the truth holds of the value as the last turn left it
+-- The gate counts the turns that run, of which there is at most one, and the value is home while none does; the shares add up; each entry was made once; each refused word was found while a turn held the gate, which made its entry since or runs still; and the truth holds of the value as the last turn left it
 pub record Ruled {T C E : Type 0} (truth : T → T → List E → List (Stake C E) → Type 0) (opening : T) (s : State (Option T) (View T C E)) : Type 0 where
   pub history : List E
   pub value : T
@@ -60,4 +61,5 @@ pub record Ruled {T C E : Type 0} (truth : T → T → List E → List (Stake C 
   pub fits : (number : ℕ) (v : View T C E) → get_elem? s.views number ≡ some v → Fits history value v
   pub known : IsKnown history s.views
   pub once : Once history (stakes_of s.views)
+  pub waited : (number : ℕ) (v : View T C E) → get_elem? s.views number ≡ some v → All (WasHeld (length history + total turn_of s.views)) v.refused
   pub holds : truth opening value history (stakes_of s.views)

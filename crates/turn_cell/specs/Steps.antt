@@ -24,9 +24,9 @@ module _ {T C E : Type 0} where
   abbrev pub won_view : T → List E → View T C E → View T C E
   won_view value history v = record v { held = Some value; seen = history }
 
-  -- after the gate was found held
-  abbrev pub refused_view : ℕ → View T C E → View T C E
-  refused_view word v = record v { refused = v.refused ++ word ∷ [] }
+  -- after the gate was found held, while the turn of the entry of this number ran
+  abbrev pub refused_view : ℕ → ℕ → View T C E → View T C E
+  refused_view word turn v = record v { refused = v.refused ++ (word, turn) ∷ [] }
 
   -- after the gate was freed and one entry made
   abbrev pub left_view : E → C → View T C E → View T C E
@@ -65,10 +65,17 @@ pub record Won {T C E : Type 0} (truth : T → T → List E → List (Stake C E)
   pub stands : Stands truth opening value history stakes number claims v.made
   pub me_is : me ≡ (won_view value history v, (0, Some value) ∷ [])
 
--- What the compare and exchange at the gate tells: the gate was won, or the word found was noted
+-- The gate was held: a turn ran whose entry the seat has not seen, and it was noted
+pub record Refused {T C E : Type 0} (v : View T C E) (word : ℕ) (me : Me (Option T) (View T C E)) : Type 0 where
+  pub turn : ℕ
+  pub unseen : length v.seen ≤ turn
+  pub held : word ≡ 1
+  pub me_is : me ≡ (refused_view word turn v, [])
+
+-- What the compare and exchange at the gate tells: the gate was won, or the turn that held it was noted
 pub record Tried {T C E : Type 0} (truth : T → T → List E → List (Stake C E) → Type 0) (opening : T) (number : ℕ) (claims : C) (v : View T C E) (word : ℕ) (me : Me (Option T) (View T C E)) : Type 0 where
   pub won : word ≡ 0 → Won truth opening number claims v me
-  pub refused : word ≢ 0 → me ≡ (refused_view word v, [])
+  pub refused : word ≢ 0 → Refused v word me
 
 -- What the swap that frees the gate tells: one entry was made
 pub record Left {T C E : Type 0} (truth : T → T → List E → List (Stake C E) → Type 0) (does : T → List E → E → Type 0) (opening : T) (number : ℕ) (claims : C) (value : T) (left : C) (next : T) (v : View T C E) (me : Me (Option T) (View T C E)) : Type 0 where

@@ -7,7 +7,7 @@ ghost use Rattle.turn_cell.specs.Rule.{Ruled};
 ghost use Rattle.turn_cell.specs.Seats.{cell_view, seat_view, seat_claims, place_view, IsSeatOf};
 ghost use Rattle.turn_cell.specs.Steps.{IsIdle, Won};
 ghost use Rattle.turn_cell.specs.Stakes.{Begins};
-ghost use Rattle.turn_cell.specs.Views.{Turned, refused_once};
+ghost use Rattle.turn_cell.specs.Views.{Turned, FoundHeld};
 
 use crate::cell::{FREE, GATE, HELD, SLOT, TurnCell};
 use crate::chronicle::{Change, Chronicle};
@@ -21,7 +21,7 @@ use std::thread;
 /// The gate was held. The change, the claims, what the seat has seen and its share are as before.
 #[derive(Drop)]
 pub struct Busy {
-    /// The word that the seat's compare and exchange found at the gate.
+    /// The word that the seat's compare and exchange found at the gate: 1, while a turn runs.
     pub word: u64,
 }
 
@@ -107,7 +107,7 @@ impl<T: Chronicle> TurnCell<T> {
         ensures same { ((place_view place.new).cell ≡ (place_view place.old).cell) × ((place_view place.new).share ≡ (place_view place.old).share) }
         ensures turned { IfOk result (λ out. Turned T.truth (λ history value next entry. C.does change.old (cell_view self.now).opening history value claims.old change.new next claims.new out entry) (cell_view self.now).opening claims.old claims.new (place_view place.old) (place_view place.new)) }
         ensures free { OnOk result ((place_view place.new).refused ≡ (place_view place.old).refused) }
-        ensures refused { IfErr result (λ busy. (busy.word ≢ 0) × (place_view place.new ≡ refused_once (place_view place.old) busy.word) × (claims.new ≡ claims.old) × (change.new ≡ change.old)) }
+        ensures refused { IfErr result (λ busy. FoundHeld (place_view place.old) busy.word (place_view place.new) × (claims.new ≡ claims.old) × (change.new ≡ change.old)) }
     {
         let word = self.try_gate::<Brand>(place, claims);
         if word != FREE {
@@ -126,8 +126,9 @@ impl<T: Chronicle> TurnCell<T> {
     ///
     /// # Errors
     ///
-    /// `Busy` where the one compare and exchange of this call found the gate held, with the word that it found. That word is
-    /// one more of the seat's refused words, and all else is as before.
+    /// `Busy` where the one compare and exchange of this call found the gate held, with the word that it found, which is 1. A
+    /// turn ran then whose entry the seat has not seen. That word, with the number of that entry, is one more of the seat's
+    /// refused words, and all else is as before.
     pub fn try_turn<C: Change<T>>(
         &self,
         seat: &mut TurnSeat<T>,
@@ -138,7 +139,7 @@ impl<T: Chronicle> TurnCell<T> {
         ensures same { ((seat_view seat.new).cell ≡ (seat_view seat.old).cell) × ((seat_view seat.new).share ≡ (seat_view seat.old).share) }
         ensures turned { IfOk result (λ out. Turned T.truth (λ history value next entry. C.does change.old (cell_view self.now).opening history value (seat_claims seat.old) change.new next (seat_claims seat.new) out entry) (cell_view self.now).opening (seat_claims seat.old) (seat_claims seat.new) (seat_view seat.old) (seat_view seat.new)) }
         ensures free { OnOk result ((seat_view seat.new).refused ≡ (seat_view seat.old).refused) }
-        ensures refused { IfErr result (λ busy. (busy.word ≢ 0) × (seat_view seat.new ≡ refused_once (seat_view seat.old) busy.word) × (seat_claims seat.new ≡ seat_claims seat.old) × (change.new ≡ change.old)) }
+        ensures refused { IfErr result (λ busy. FoundHeld (seat_view seat.old) busy.word (seat_view seat.new) × (seat_claims seat.new ≡ seat_claims seat.old) × (change.new ≡ change.old)) }
     {
         self.turn_at(&mut seat.place, &mut seat.claims, change)
     }

@@ -13,8 +13,8 @@ pub(crate) struct View<T, C, E> {
     pub claims: Option<C>,
     // The seat's part of the whole share.
     pub share: u64,
-    // The words that its refused compare and exchanges found.
-    pub refused: LinkedList<u64>,
+    // The words that its refused compare and exchanges found, each with the number of the entry whose turn held the gate.
+    pub refused: LinkedList<(u64, u64)>,
     // What a seat that joined had seen, until a look has compared it.
     pub told: LinkedList<E>,
 }

@@ -1,7 +1,7 @@
 //! Turns at a cell: a counter whose history is its increments.
 ghost use Rattle.std.specs.Prelude.{◌≡◌, ◌+◌, ◌*◌, ◌-◌, ◌^◌, ◌<◌, min, length, IfSome, MatchOption};
 ghost use Rattle.turn_cell.specs.Seats.{cell_view, seat_view, IsSeatOf};
-ghost use Rattle.turn_cell.specs.Views.{first_seat, refused_once};
+ghost use Rattle.turn_cell.specs.Views.{first_seat, FoundHeld};
 
 use std::alloc::Global;
 use std::process::Abort;
@@ -75,7 +75,7 @@ impl<'a> Change<Counter> for Meeting<'a> {
 
     ghost ready = { λ change _ _ _. IsSeatOf change.cell.now change.other };
 
-    ghost does = { λ before _ _ _ _ after _ _ answer _. MatchOption answer ((seat_view after.other).refused ≡ (seat_view before.other).refused) (λ word. seat_view after.other ≡ refused_once (seat_view before.other) word) };
+    ghost does = { λ before _ _ _ _ after _ _ answer _. MatchOption answer ((seat_view after.other).refused ≡ (seat_view before.other).refused) (λ word. FoundHeld (seat_view before.other) word (seat_view after.other)) };
 
     fn apply(&mut self, value: &mut Counter, _claims: &mut Nothing) -> Option<u64> {
         value.count = value.count.saturating_add(1);

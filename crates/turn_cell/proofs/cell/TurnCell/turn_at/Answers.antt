@@ -18,14 +18,23 @@ returns-then-word-ne-FREE-clause-idle g c = idle-refused c.try_gate-word.result 
 
 pub returns-then-word-ne-FREE-clause-same : goal.returns-then-word-ne-FREE-clause-same
 returns-then-word-ne-FREE-clause-same g c =
-    let is = c.try_gate-word.ensures.step.refused c.if-word-ne-FREE.true in
+    let is = (c.try_gate-word.ensures.step.refused c.if-word-ne-FREE.true).me_is in
     (c.try_gate-word.ensures.cell.0, λ i. (is i).0.share)
 
 pub returns-then-word-ne-FREE-clause-refused : goal.returns-then-word-ne-FREE-clause-refused
 returns-then-word-ne-FREE-clause-refused g c =
-    let is = c.try_gate-word.ensures.step.refused c.if-word-ne-FREE.true in
-    let cell = c.try_gate-word.ensures.cell.0 in
-    (c.if-word-ne-FREE.true, (λ i. record { cell = cell i; seen = (is i).0.seen; made = (is i).0.made; share = (is i).0.share; refused = (is i).0.refused }), refl, refl)
+    let found = c.try_gate-word.ensures.step.refused c.if-word-ne-FREE.true in
+    let is = found.me_is in
+    let cell = c.try_gate-word.ensures.cell.0 in (
+      record {
+        turn = found.turn;
+        unseen = found.unseen;
+        held = found.held;
+        seat_is = λ i. record { cell = cell i; seen = (is i).0.seen; made = (is i).0.made; share = (is i).0.share; refused = (is i).0.refused };
+      },
+      refl,
+      refl,
+    )
 
 pub exchange-requires : goal.exchange-requires
 exchange-requires g c =
