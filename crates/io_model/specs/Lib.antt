@@ -22,3 +22,4 @@ pub mod Conversion
 pub mod Space
 pub mod Budgets
 pub mod Sizes
+pub mod Causes

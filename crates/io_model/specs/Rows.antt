@@ -17,3 +17,17 @@ pub mod WrongRuns
 pub mod Flaws
 pub mod UnalignedDirectCallsAreRefused
 pub mod PrintsTheImage
+pub mod DroppedPageIsReadBack
+pub mod FailedWritebackIsRetried
+pub mod DirectReadFlushesFirst
+pub mod DirectWriteDropsThePage
+pub mod WritebackErrorIsSeenAtClose
+pub mod AllocatesAndPunches
+pub mod DaxWriteThatFailsMapsNothing
+pub mod TwoFaultsTwoReplies
+pub mod DirectReadFailsInItsSecondBio
+pub mod SizesCutAndGrow
+pub mod TruncatePastTheEndIsRefused
+pub mod DirectWriteBelowTheBlock
+pub mod PartOfAMappedBlockIsKept
+pub mod MoreWrongRuns

@@ -1,6 +1,8 @@
 //! The definitions, tried on runs that can be checked by hand.
 ghost use Rattle.std.specs.Prelude.{◌≡◌, [], ◌∷◌, true, false, codes};
+ghost use Rattle.io_model.specs.Causes.{AreCaused};
 ghost use Rattle.io_model.specs.Right.{RunIsRight};
+ghost use Rattle.io_model.specs.Rows.Parts.{fresh_lanes};
 ghost use Rattle.io_model.specs.Rows.ReadsOneMappedBlock as reads_one_mapped_block;
 ghost use Rattle.io_model.specs.Rows.HoleAndUnwrittenReadZeros as hole_and_unwritten_read_zeros;
 ghost use Rattle.io_model.specs.Rows.WriteIntoUnwrittenConvertsAtClose as write_into_unwritten_converts_at_close;
@@ -19,12 +21,15 @@ ghost use Rattle.io_model.specs.Rows.UnalignedDirectCallsAreRefused as unaligned
 ghost use Rattle.io_model.specs.Rows.PrintsTheImage as prints_the_image;
 ghost use Rattle.io_model.specs.RunText.{run_text, page_runs, runs_text};
 
+mod owed;
 mod refusals;
+mod rows;
 
 /// A read of one mapped block gives the block's bytes, and leaves one stamp there.
 #[tactic(auto, unfolding(crate::specs::Rows::Parts::printed))]
 pub fn reads_one_mapped_block()
     ensures right { RunIsRight reads_one_mapped_block.script (0 ∷ []) reads_one_mapped_block.run }
+    ensures caused { AreCaused (fresh_lanes reads_one_mapped_block.script) reads_one_mapped_block.script reads_one_mapped_block.run }
     ensures text { run_text reads_one_mapped_block.script reads_one_mapped_block.run false ≡ reads_one_mapped_block.text }
 {}
 
@@ -32,6 +37,7 @@ pub fn reads_one_mapped_block()
 #[tactic(auto, unfolding(crate::specs::Rows::Parts::printed))]
 pub fn hole_and_unwritten_read_zeros()
     ensures right { RunIsRight hole_and_unwritten_read_zeros.script (0 ∷ 0 ∷ []) hole_and_unwritten_read_zeros.run }
+    ensures caused { AreCaused (fresh_lanes hole_and_unwritten_read_zeros.script) hole_and_unwritten_read_zeros.script hole_and_unwritten_read_zeros.run }
     ensures text { run_text hole_and_unwritten_read_zeros.script hole_and_unwritten_read_zeros.run false ≡ hole_and_unwritten_read_zeros.text }
 {}
 
@@ -39,6 +45,7 @@ pub fn hole_and_unwritten_read_zeros()
 #[tactic(auto, unfolding(crate::specs::Rows::Parts::printed))]
 pub fn write_into_unwritten_converts_at_close()
     ensures right { RunIsRight write_into_unwritten_converts_at_close.script (0 ∷ 0 ∷ []) write_into_unwritten_converts_at_close.run }
+    ensures caused { AreCaused (fresh_lanes write_into_unwritten_converts_at_close.script) write_into_unwritten_converts_at_close.script write_into_unwritten_converts_at_close.run }
     ensures text { run_text write_into_unwritten_converts_at_close.script write_into_unwritten_converts_at_close.run false ≡ write_into_unwritten_converts_at_close.text }
 {}
 
@@ -46,6 +53,7 @@ pub fn write_into_unwritten_converts_at_close()
 #[tactic(auto, unfolding(crate::specs::Rows::Parts::printed))]
 pub fn one_bio_for_three_dirty_blocks()
     ensures right { RunIsRight one_bio_for_three_dirty_blocks.script (0 ∷ []) one_bio_for_three_dirty_blocks.run }
+    ensures caused { AreCaused (fresh_lanes one_bio_for_three_dirty_blocks.script) one_bio_for_three_dirty_blocks.script one_bio_for_three_dirty_blocks.run }
     ensures text { run_text one_bio_for_three_dirty_blocks.script one_bio_for_three_dirty_blocks.run false ≡ one_bio_for_three_dirty_blocks.text }
 {}
 
@@ -53,6 +61,7 @@ pub fn one_bio_for_three_dirty_blocks()
 #[tactic(auto, unfolding(crate::specs::Rows::Parts::printed))]
 pub fn partial_write_reads_the_block()
     ensures right { RunIsRight partial_write_reads_the_block.script (0 ∷ 0 ∷ []) partial_write_reads_the_block.run }
+    ensures caused { AreCaused (fresh_lanes partial_write_reads_the_block.script) partial_write_reads_the_block.script partial_write_reads_the_block.run }
     ensures text { run_text partial_write_reads_the_block.script partial_write_reads_the_block.run false ≡ partial_write_reads_the_block.text }
 {}
 
@@ -60,6 +69,7 @@ pub fn partial_write_reads_the_block()
 #[tactic(auto, unfolding(crate::specs::Rows::Parts::printed))]
 pub fn failed_direct_write_lands_a_prefix()
     ensures right { RunIsRight failed_direct_write_lands_a_prefix.script (0 ∷ 0 ∷ []) failed_direct_write_lands_a_prefix.run }
+    ensures caused { AreCaused (fresh_lanes failed_direct_write_lands_a_prefix.script) failed_direct_write_lands_a_prefix.script failed_direct_write_lands_a_prefix.run }
     ensures text { run_text failed_direct_write_lands_a_prefix.script failed_direct_write_lands_a_prefix.run false ≡ failed_direct_write_lands_a_prefix.text }
 {}
 
@@ -67,6 +77,7 @@ pub fn failed_direct_write_lands_a_prefix()
 #[tactic(auto, unfolding(crate::specs::Rows::Parts::printed))]
 pub fn failed_direct_write_leaves_unwritten()
     ensures right { RunIsRight failed_direct_write_leaves_unwritten.script (0 ∷ 0 ∷ []) failed_direct_write_leaves_unwritten.run }
+    ensures caused { AreCaused (fresh_lanes failed_direct_write_leaves_unwritten.script) failed_direct_write_leaves_unwritten.script failed_direct_write_leaves_unwritten.run }
     ensures text { run_text failed_direct_write_leaves_unwritten.script failed_direct_write_leaves_unwritten.run false ≡ failed_direct_write_leaves_unwritten.text }
 {}
 
@@ -74,6 +85,7 @@ pub fn failed_direct_write_leaves_unwritten()
 #[tactic(auto, unfolding(crate::specs::Rows::Parts::printed))]
 pub fn runs_out_of_space()
     ensures right { RunIsRight runs_out_of_space.script (0 ∷ 0 ∷ []) runs_out_of_space.run }
+    ensures caused { AreCaused (fresh_lanes runs_out_of_space.script) runs_out_of_space.script runs_out_of_space.run }
     ensures text { run_text runs_out_of_space.script runs_out_of_space.run false ≡ runs_out_of_space.text }
 {}
 
@@ -81,6 +93,7 @@ pub fn runs_out_of_space()
 #[tactic(auto, unfolding(crate::specs::Rows::Parts::printed))]
 pub fn ends_at_the_files_end()
     ensures right { RunIsRight ends_at_the_files_end.script (0 ∷ 0 ∷ 0 ∷ 0 ∷ 0 ∷ 0 ∷ []) ends_at_the_files_end.run }
+    ensures caused { AreCaused (fresh_lanes ends_at_the_files_end.script) ends_at_the_files_end.script ends_at_the_files_end.run }
     ensures text { run_text ends_at_the_files_end.script ends_at_the_files_end.run false ≡ ends_at_the_files_end.text }
 {}
 
@@ -88,6 +101,7 @@ pub fn ends_at_the_files_end()
 #[tactic(auto, unfolding(crate::specs::Rows::Parts::printed))]
 pub fn dax_zeroes_before_it_maps()
     ensures right { RunIsRight dax_zeroes_before_it_maps.script (0 ∷ 0 ∷ 0 ∷ []) dax_zeroes_before_it_maps.run }
+    ensures caused { AreCaused (fresh_lanes dax_zeroes_before_it_maps.script) dax_zeroes_before_it_maps.script dax_zeroes_before_it_maps.run }
     ensures text { run_text dax_zeroes_before_it_maps.script dax_zeroes_before_it_maps.run false ≡ dax_zeroes_before_it_maps.text }
 {}
 
@@ -95,6 +109,7 @@ pub fn dax_zeroes_before_it_maps()
 #[tactic(auto, unfolding(crate::specs::Rows::Parts::printed))]
 pub fn punch_zeroes_partial_ends()
     ensures right { RunIsRight punch_zeroes_partial_ends.script (0 ∷ 0 ∷ 0 ∷ 0 ∷ []) punch_zeroes_partial_ends.run }
+    ensures caused { AreCaused (fresh_lanes punch_zeroes_partial_ends.script) punch_zeroes_partial_ends.script punch_zeroes_partial_ends.run }
     ensures text { run_text punch_zeroes_partial_ends.script punch_zeroes_partial_ends.run false ≡ punch_zeroes_partial_ends.text }
 {}
 
@@ -102,6 +117,7 @@ pub fn punch_zeroes_partial_ends()
 #[tactic(auto, unfolding(crate::specs::Rows::Parts::printed))]
 pub fn closing_sync_fails()
     ensures right { RunIsRight closing_sync_fails.script (0 ∷ []) closing_sync_fails.run }
+    ensures caused { AreCaused (fresh_lanes closing_sync_fails.script) closing_sync_fails.script closing_sync_fails.run }
     ensures text { run_text closing_sync_fails.script closing_sync_fails.run false ≡ closing_sync_fails.text }
 {}
 
@@ -109,6 +125,7 @@ pub fn closing_sync_fails()
 #[tactic(auto, unfolding(crate::specs::Rows::Parts::printed))]
 pub fn short_read_at_a_fault()
     ensures right { RunIsRight short_read_at_a_fault.script (0 ∷ []) short_read_at_a_fault.run }
+    ensures caused { AreCaused (fresh_lanes short_read_at_a_fault.script) short_read_at_a_fault.script short_read_at_a_fault.run }
     ensures text { run_text short_read_at_a_fault.script short_read_at_a_fault.run false ≡ short_read_at_a_fault.text }
 {}
 
@@ -116,6 +133,7 @@ pub fn short_read_at_a_fault()
 #[tactic(auto, unfolding(crate::specs::Rows::Parts::printed))]
 pub fn two_direct_writes_in_one_phase()
     ensures right { RunIsRight two_direct_writes_in_one_phase.script two_direct_writes_in_one_phase.makers two_direct_writes_in_one_phase.run }
+    ensures caused { AreCaused (fresh_lanes two_direct_writes_in_one_phase.script) two_direct_writes_in_one_phase.script two_direct_writes_in_one_phase.run }
     ensures text { run_text two_direct_writes_in_one_phase.script two_direct_writes_in_one_phase.run false ≡ two_direct_writes_in_one_phase.text }
 {}
 
@@ -123,6 +141,7 @@ pub fn two_direct_writes_in_one_phase()
 #[tactic(auto, unfolding(crate::specs::Rows::Parts::printed))]
 pub fn two_direct_writes_in_the_other_order()
     ensures right { RunIsRight two_direct_writes_in_one_phase.script two_direct_writes_in_one_phase.makers two_direct_writes_in_one_phase.other_run }
+    ensures caused { AreCaused (fresh_lanes two_direct_writes_in_one_phase.script) two_direct_writes_in_one_phase.script two_direct_writes_in_one_phase.other_run }
     ensures text { run_text two_direct_writes_in_one_phase.script two_direct_writes_in_one_phase.other_run false ≡ two_direct_writes_in_one_phase.other_text }
 {}
 
@@ -130,6 +149,7 @@ pub fn two_direct_writes_in_the_other_order()
 #[tactic(auto, unfolding(crate::specs::Rows::Parts::printed))]
 pub fn unaligned_direct_calls_are_refused()
     ensures right { RunIsRight unaligned_direct_calls_are_refused.script (0 ∷ 0 ∷ []) unaligned_direct_calls_are_refused.run }
+    ensures caused { AreCaused (fresh_lanes unaligned_direct_calls_are_refused.script) unaligned_direct_calls_are_refused.script unaligned_direct_calls_are_refused.run }
     ensures text { run_text unaligned_direct_calls_are_refused.script unaligned_direct_calls_are_refused.run false ≡ unaligned_direct_calls_are_refused.text }
 {}
 

@@ -1,4 +1,4 @@
-use Rattle.std.specs.Prelude.{ℕ, List, [], ◌∷◌, ◌++◌, Some, None, codes, map, replicate, ⊤}
+use Rattle.std.specs.Prelude.{ℕ, zero, suc, true, ◌==◌, ◌+◌, List, [], ◌∷◌, ◌++◌, Some, None, codes, map, replicate, ⊤, if◌then◌else◌}
 use Rattle.std.specs.Fmt.{digits}
 use Rattle.hex.specs.Hex.{encode_with}
 use Rattle.iob_base.specs.Layout.{layout}
@@ -9,10 +9,13 @@ use Rattle.iob_base.specs.declared.sector.Page.{Page}
 use Rattle.iob_base.specs.declared.stamp.Mark.TheVariants.{Done, Landed, Missed}
 use Rattle.iob_base.specs.declared.stamp.Mode.TheVariants.{Cached}
 use Rattle.iob_base.specs.declared.stamp.Stamp.{Stamp}
+use Rattle.io_model.specs.Causes.{LaneStart}
 use Rattle.io_model.specs.declared.file.BlockEnd.{BlockEnd}
 use Rattle.io_model.specs.declared.file.Extent.{Extent}
 use Rattle.io_model.specs.declared.file.FileSpec.{FileSpec}
 use Rattle.io_model.specs.declared.file.Kind.{Kind}
+use Rattle.io_model.specs.declared.file.SizeMark.{SizeMark}
+use Rattle.io_model.specs.declared.file.SizeStamp.{SizeStamp}
 use Rattle.io_model.specs.declared.run.CallEnd.{CallEnd}
 use Rattle.io_model.specs.declared.run.LaneEnd.{LaneEnd}
 use Rattle.io_model.specs.declared.script.Call.{Call}
@@ -81,6 +84,10 @@ landed call = record { caller = 0; call = call; mark = Landed }
 abbrev pub missed : ℕ → Stamp
 missed call = missed_by 0 call
 
+-- a turn of the first pass at the size of a file
+abbrev pub size_stamp : ℕ → SizeMark → SizeStamp
+size_stamp call mark = record { caller = 0; call = call; mark = mark }
+
 abbrev pub block_with : DeviceBlock → List Stamp → BlockEnd
 block_with sector journal = record { sector = Some sector; dirty = None; journal = journal }
 
@@ -105,6 +112,19 @@ lane ops faults = record { ops = ops; faults = faults }
 -- the lanes where the first caller's and the closing sync's are used at most
 abbrev pub outer_lanes : LaneEnd → LaneEnd → List LaneEnd
 outer_lanes first closing = first ∷ replicate 15 (lane 0 0) ++ closing ∷ []
+
+-- the numbers that the fault lines arm on a lane
+abbrev pub armed_on : ℕ → List (ℕ × ℕ) → List ℕ
+armed_on n [] = []
+armed_on n (line ∷ lines) = if line.0 == n then line.1 ∷ armed_on n lines else armed_on n lines
+
+abbrev pub starts_from : ℕ → ℕ → List (ℕ × ℕ) → List LaneStart
+starts_from zero n lines = []
+starts_from (suc more) n lines = record { count = 0; armed = Some (armed_on n lines); fresh = true } ∷ starts_from more (n + 1) lines
+
+-- the seventeen lanes over fates without a past, which tell what the script's fault lines arm
+abbrev pub fresh_lanes : Script → List LaneStart
+fresh_lanes script = starts_from 17 0 script.faults
 
 -- under a line `unfolding printed` the digits of numbers and bytes compute
 unfoldable pub printed : ⊤

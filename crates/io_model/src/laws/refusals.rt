@@ -1,6 +1,6 @@
 //! Runs that are right but for one thing, and are not right for it.
 ghost use Rattle.std.specs.Prelude.{[], ◌∷◌};
-ghost use Rattle.io_model.specs.Rows.Flaws.{HasOnly, Form, Makers, Journals, Reads, Contents, Pages};
+ghost use Rattle.io_model.specs.Rows.Flaws.{HasAll, HasOnly, Form, Makers, Journals, Reads, Contents, Pages, Partition, Causes};
 ghost use Rattle.io_model.specs.Rows.ClosingSyncFails as closing_sync_fails;
 ghost use Rattle.io_model.specs.Rows.FailedDirectWriteLandsAPrefix as failed_direct_write_lands_a_prefix;
 ghost use Rattle.io_model.specs.Rows.HoleAndUnwrittenReadZeros as hole_and_unwritten_read_zeros;
@@ -58,7 +58,7 @@ pub fn later_phase_before_an_earlier_is_not_right()
 
 /// A call that was done left a mark of failure.
 pub fn failed_mark_of_a_done_call_is_not_right()
-    ensures { HasOnly Journals two_direct_writes.script two_direct_writes.makers wrong.failed_mark_of_a_done_call }
+    ensures { HasAll (Journals ∷ Causes ∷ []) two_direct_writes.script two_direct_writes.makers wrong.failed_mark_of_a_done_call }
 {}
 
 /// Two callers of one phase share a pass, and their stamps say so.
@@ -93,5 +93,5 @@ pub fn split_extent_is_not_right()
 
 /// A block that has space has no sector.
 pub fn missing_sector_is_not_right()
-    ensures { HasOnly Form hole_and_unwritten_read_zeros.script (0 ∷ 0 ∷ []) wrong.missing_sector }
+    ensures { HasAll (Form ∷ Partition ∷ []) hole_and_unwritten_read_zeros.script (0 ∷ 0 ∷ []) wrong.missing_sector }
 {}
