@@ -1,15 +1,12 @@
 //! The bio, and its run on a lane.
-ghost use Rattle.std.specs.Prelude.{◌≡◌};
+ghost use Rattle.std.specs.Prelude.{◌≡◌, length};
 ghost use Rattle.fault_device.specs.LaneView.{lane_seen};
 ghost use Rattle.fault_device.specs.Opening.{Opening, IsServed, Serves};
 ghost use Rattle.fault_device.specs.Transfer.{CanTransfer, Tells};
-ghost use Rattle.arrayvec.specs.ArrayVec.{array_vec_len};
 ghost use Rattle.bio_pages.specs.Running.{parts_after};
 
-use arrayvec::ArrayVec;
-use fault_device::{Done, Lane, Part};
-use iob_base::Op;
-use std::alloc::Global;
+use fault_device::{Done, Lane};
+use iob_base::{Op, Parts};
 
 /// One transfer of up to 16 blocks, with all that it moves. Whoever has the bio owns its sectors and pages.
 ///
@@ -20,7 +17,7 @@ pub struct Bio<T> {
     pub op: Op,
     pub slot: u32,
     pub block: u64,
-    pub parts: ArrayVec<Part, 16, Global>,
+    pub parts: Parts,
     pub ticket: T,
 }
 
@@ -29,10 +26,10 @@ pub struct Bio<T> {
 ///
 /// The first `landed` parts are moved. All other bytes, all numbers, and the rest of the bio stay.
 pub fn run_bio<T>(lane: &mut Lane, bio: &mut Bio<T>) -> Done
-    requires { CanTransfer bio.old.parts.items }
+    requires { CanTransfer bio.old.parts }
     ensures bio { bio.new ≡ record bio.old { parts = bio.new.parts } }
-    ensures parts { bio.new.parts.items ≡ parts_after bio.old.op result.landed bio.old.parts.items }
-    ensures tells { Tells (array_vec_len bio.old.parts) (lane_seen count tells lane.old) result (lane_seen count tells lane.new) }
+    ensures parts { bio.new.parts ≡ parts_after bio.old.op result.landed bio.old.parts }
+    ensures tells { Tells (length bio.old.parts) (lane_seen count tells lane.old) result (lane_seen count tells lane.new) }
     ensures serves { (o : Opening) → Serves o (lane_seen count tells lane.old) → IsServed o result (lane_seen count tells lane.new) }
 {
     match bio.op {

@@ -4,7 +4,7 @@ use Rattle.fault_device.specs.LaneView.{LaneView}
 use Rattle.fault_device.specs.Ran.{Ran}
 use Rattle.fault_device.specs.Telling.{is_next_armed}
 use Rattle.fault_device.specs.declared.lane.Done.{Done}
-use Rattle.fault_device.specs.declared.part.Part.{Part}
+use Rattle.iob_base.specs.declared.part.Part.{Part}
 
 -- the page has a block's length
 abbrev pub IsWhole : Part → Type 0

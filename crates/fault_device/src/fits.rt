@@ -3,7 +3,7 @@ ghost use Rattle.std.specs.Prelude.{All};
 ghost use Rattle.std.specs.Bool.{OnTrue};
 ghost use Rattle.fault_device.specs.Transfer.{CanTransfer, IsWhole};
 
-use crate::part::Part;
+use iob_base::Part;
 
 /// Whether one transfer can move these parts: they are 1 to 16, and each page has its block's length.
 pub fn can_transfer(parts: &[Part]) -> bool

@@ -3,7 +3,7 @@ ghost use Rattle.std.specs.Prelude.{◌≡◌, ◌<◌, ◌≤◌, MatchResult, 
 
 use crate::fate::{Fate, Verdict};
 use crate::moves::{fill_blocks, fill_pages};
-use crate::part::Part;
+use iob_base::Part;
 use std::alloc::AllocError;
 
 /// What a transfer did: on which lane, of how many blocks, how many of them landed, whether it failed,

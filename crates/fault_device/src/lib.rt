@@ -6,10 +6,9 @@ mod fits;
 mod lane;
 mod listed;
 mod moves;
-mod part;
 
 pub use fate::{Fate, Verdict};
 pub use fits::can_transfer;
+pub use iob_base::Part;
 pub use lane::{Done, Lane};
 pub use listed::Listed;
-pub use part::Part;

@@ -2,7 +2,7 @@
 ghost use Rattle.std.specs.Prelude.{◌≡◌, All, map};
 ghost use Rattle.fault_device.specs.Transfer.{IsWhole, block_read, block_written};
 
-use crate::part::Part;
+use iob_base::Part;
 
 pub(crate) fn fill_pages(parts: &mut [Part])
     requires { All IsWhole parts.old }

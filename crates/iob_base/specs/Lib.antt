@@ -8,3 +8,4 @@ pub mod Lending
 pub mod Memory
 pub mod Outside
 pub mod Writer
+pub mod Parting

@@ -55,6 +55,11 @@ impl<T> Items<T> {
         self.items.as_slice()
     }
 
+    /// What the elements are allocated with.
+    pub(crate) fn allocator(&self) -> Global {
+        *self.items.allocator()
+    }
+
     /// How many elements there are.
     pub fn len(&self) -> usize
         ensures { result ≡ length self.now }

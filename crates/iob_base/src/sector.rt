@@ -49,6 +49,10 @@ impl MadeWith<Global> for Sector {
 
 /// A page without bytes, with the number 0. It takes no memory.
 impl MadeWith<Global> for Page {
+    ghost use Rattle.std.specs.Prelude.{[]};
+
+    ghost is_made_with = { λ p. (p.number ≡ 0) × (p.bytes ≡ []) };
+
     fn made_with(alloc: Global) -> Page {
         Page {
             number: 0,
@@ -66,6 +70,11 @@ impl Sector {
         ensures { result ≡ self.now.number }
     {
         self.number
+    }
+
+    /// What its bytes are allocated with.
+    pub(crate) fn allocator(&self) -> Global {
+        *self.bytes.allocator()
     }
 
     /// The block's bytes.

@@ -4,6 +4,7 @@ pub mod KeepLemmas
 pub mod LawLemmas
 pub mod Making
 pub mod PutLemmas
+pub mod PutRuns
 pub mod RunLemmas
 pub mod Sizes
 pub mod SlotLemmas

@@ -1,6 +1,6 @@
 //! The iov and its calls.
-ghost use Rattle.std.specs.Prelude.{◌≡◌, ◌+◌, ◌-◌, ◌<◌, ◌≤◌, ◌^◌, ◌++◌, IfNone, IfOk, IfSome, length, replicate, sum, take, drop};
-ghost use Rattle.arrayvec.specs.ArrayVec.{array_vec_len};
+ghost use Rattle.std.specs.Prelude.{◌≡◌, ◌+◌, ◌-◌, ◌<◌, ◌≤◌, ◌^◌, ◌++◌, [], All, IfNone, IfOk, IfSome, length, replicate, sum, take, drop};
+ghost use Rattle.iob_base.specs.Parting.{IsBare, bare_parts, pages_of};
 ghost use Rattle.iov_iter.specs.Home.{AllHome, AreHome};
 ghost use Rattle.iov_iter.specs.IovView.{moved_to, put_at, with_bytes, written_on};
 ghost use Rattle.iov_iter.specs.Kept.{IsIov};
@@ -9,11 +9,11 @@ ghost use Rattle.iov_iter.specs.Moving.{CanPut, CanTake, after_put, after_take, 
 ghost use Rattle.iov_iter.specs.Unaligned.{AreAligned, IsFirstUnaligned};
 
 use crate::make::zeroed_slots;
-pub use crate::pages::Pages;
 use crate::pages::{cut_after, put_run, take_run};
 use crate::pieces::{read_from, write_from};
 use crate::slot::Slot;
 use crate::spot::spot_at;
+use iob_base::Parts;
 use std::alloc::{AllocError, Global};
 use std::marker::Model;
 
@@ -199,11 +199,12 @@ impl IovIter {
         None
     }
 
-    /// Moves the next `n` pages out, and the place past them. Their numbers and lengths stay known.
-    pub fn take_pages(&mut self, n: u32, into: &mut Pages)
+    /// Moves the next `n` pages out to the end of a list, each with a blank sector, and the place past them. Their
+    /// numbers and lengths stay known.
+    pub fn take_pages(&mut self, n: u32, into: &mut Parts)
         requires whole { CanTake self.old n }
-        requires room { array_vec_len into.old + n ≤ 16 }
-        ensures pages { into.new.items ≡ into.old.items ++ next_pages self.old n }
+        requires room { length into.old + n ≤ 16 }
+        ensures pages { into.new ≡ into.old ++ bare_parts (next_pages self.old n) }
         ensures state { self.new ≡ after_take self.old n }
     {
         let spot = spot_at(self.page_size, &self.lengths, self.place);
@@ -211,12 +212,16 @@ impl IovIter {
         self.place += u64::from(n) * u64::from(self.page_size);
     }
 
-    /// Puts pages in their places, which are those from the index `at` on. The place stays.
-    pub fn put_pages(&mut self, at: u64, pages: Pages)
-        requires { CanPut self.old at pages.items }
-        ensures { self.new ≡ after_put self.old at pages.items }
+    /// Puts the pages of a list in their places, which are those from the index `at` on, and empties the list. Its
+    /// sectors are blank. The place stays.
+    pub fn put_pages(&mut self, at: u64, parts: &mut Parts)
+        requires fit { CanPut self.old at (pages_of parts.old) }
+        requires bare { All IsBare parts.old }
+        ensures state { self.new ≡ after_put self.old at (pages_of parts.old) }
+        ensures emptied { parts.new ≡ [] }
     {
-        put_run(&mut self.slots, at as usize, pages);
+        put_run(&mut self.slots, at as usize, parts.as_mut_slice());
+        parts.clear();
     }
 }
 

@@ -9,5 +9,5 @@ mod pieces;
 mod slot;
 mod spot;
 
-pub use iov::{IovIter, Pages};
+pub use iov::IovIter;
 pub use laws::taken_pages_go_back;

@@ -1,6 +1,6 @@
 //! Pages leave their slots and come back to them.
-ghost use Rattle.std.specs.Prelude.{◌≡◌, ◌+◌, ◌<◌, ◌≤◌, ◌++◌, true, map, slice_index, take, drop, vec_len};
-ghost use Rattle.arrayvec.specs.ArrayVec.{array_vec_len};
+ghost use Rattle.std.specs.Prelude.{◌≡◌, ◌+◌, ◌<◌, ◌≤◌, ◌++◌, true, length, map, slice_index, take, drop, vec_len};
+ghost use Rattle.iob_base.specs.Parting.{bare_parts, pages_of, without_page};
 ghost use Rattle.iov_iter.specs.Home.{is_home};
 ghost use Rattle.iov_iter.specs.IovView.{sizes, start_in};
 ghost use Rattle.iov_iter.specs.Moving.{first_places};
@@ -8,23 +8,18 @@ ghost use Rattle.iov_iter.specs.Runs.{AreIn, FitIn, page_in, run_mapped, slot_ou
 ghost use Rattle.iov_iter.specs.Slots.{joined, places};
 
 use crate::slot::Slot;
-use arrayvec::ArrayVec;
-use iob_base::Page;
-use std::alloc::Global;
+use iob_base::{Part, Parts};
 
-/// The pages of one transfer.
-pub type Pages = ArrayVec<Page, 16, Global>;
-
-/// Moves the pages of `n` slots out, in order.
-pub(crate) fn take_run(slots: &mut Vec<Slot>, first: usize, n: usize, into: &mut Pages)
+/// Moves the pages of `n` slots out to the end of a list, in order.
+pub(crate) fn take_run(slots: &mut Vec<Slot>, first: usize, n: usize, into: &mut Parts)
     requires within { first + n ≤ vec_len slots.old }
     requires home { AreIn n (drop first slots.old.items) }
-    requires room { array_vec_len into.old + n ≤ 16 }
-    ensures pages { into.new.items ≡ into.old.items ++ map page_in (take n (drop first slots.old.items)) }
+    requires room { length into.old + n ≤ 16 }
+    ensures pages { into.new ≡ into.old ++ bare_parts (map page_in (take n (drop first slots.old.items))) }
     ensures slots { slots.new.items ≡ run_mapped slot_out first n slots.old.items }
 {
     for i in 0..n {
-        into.push(slots[first + i].take());
+        into.push_page(slots[first + i].take());
     }
 }
 
@@ -41,15 +36,15 @@ pub(crate) fn cut_after(slots: &mut Vec<Slot>, page: usize, kept: usize)
     slots.truncate(page + 1);
 }
 
-/// Moves pages into the slots from one on, in order.
-pub(crate) fn put_run(slots: &mut Vec<Slot>, first: usize, pages: Pages)
-    requires { FitIn (drop first slots.old.items) pages.items }
-    ensures { slots.new.items ≡ take first slots.old.items ++ slots_put (drop first slots.old.items) pages.items }
+/// Moves the pages of parts into the slots from one on, in order.
+pub(crate) fn put_run(slots: &mut Vec<Slot>, first: usize, parts: &mut [Part])
+    requires { FitIn (drop first slots.old.items) (pages_of parts.old) }
+    ensures slots { slots.new.items ≡ take first slots.old.items ++ slots_put (drop first slots.old.items) (pages_of parts.old) }
+    ensures rest { parts.new ≡ map without_page parts.old }
 {
     let mut at = first;
-    let mut pages = pages.into_iter();
-    while let Some(page) = pages.next() {
-        slots[at].put(page);
+    for part in parts.iter_mut() {
+        slots[at].put(part.take_page());
         at += 1;
     }
 }

@@ -10,7 +10,7 @@ use Rattle.iob_base.specs.declared.stamp.Op.TheVariants.{Read, Write}
 use Rattle.iob_base.specs.declared.stamp.Stamp.{Stamp}
 use Rattle.iob_base.specs.declared.stamp.Tag.{Tag}
 use Rattle.fault_device.specs.declared.lane.Done.{Done}
-use Rattle.fault_device.specs.declared.part.Part.{Part}
+use Rattle.iob_base.specs.declared.part.Part.{Part}
 use Rattle.io_model.specs.Kinds.{device_number}
 use Rattle.io_model.specs.declared.file.Kind.{Kind}
 use Rattle.io_model.specs.declared.file.Kind.TheVariants.{Hole, Delalloc, Unwritten, Mapped}

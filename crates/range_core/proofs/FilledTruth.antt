@@ -7,7 +7,7 @@ use lib.ListN.{get_elem?}
 use Rattle.iob_base.specs.DeviceBlock.{DeviceBlock}
 use Rattle.iob_base.specs.declared.stamp.Op.TheVariants.{Read}
 use Rattle.fault_device.specs.declared.lane.Done.{Done}
-use Rattle.fault_device.specs.declared.part.Part.{Part}
+use Rattle.iob_base.specs.declared.part.Part.{Part}
 use Rattle.io_model.specs.Contents.{Content}
 use Rattle.io_model.specs.Kinds.{device_number}
 use Rattle.range_core.specs.BlockStates.{at_home_again, state_of}

@@ -8,7 +8,7 @@ use Rattle.iob_base.specs.DeviceBlock.{BLANK, DeviceBlock}
 use Rattle.iob_base.specs.declared.sector.Page.{Page}
 use Rattle.iob_base.specs.declared.stamp.Stamp.{Stamp}
 use Rattle.fault_device.specs.Transfer.{CanTransfer, IsWhole}
-use Rattle.fault_device.specs.declared.part.Part.{Part}
+use Rattle.iob_base.specs.declared.part.Part.{Part}
 use Rattle.io_model.specs.Kinds.{device_number}
 use Rattle.range_core.specs.Lends.{HaveSectors, home_cell, home_of, lent_cell, part_of, parts_of}
 use Rattle.turn_cell.specs.Stakes.{total}

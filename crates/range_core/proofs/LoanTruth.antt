@@ -5,7 +5,7 @@ use mathlib.Core.Option.{some}
 use lib.ListN.{get_elem?}
 use Rattle.iob_base.specs.DeviceBlock.{BLANK, DeviceBlock}
 use Rattle.iob_base.specs.declared.sector.Page.{Page}
-use Rattle.fault_device.specs.declared.part.Part.{Part}
+use Rattle.iob_base.specs.declared.part.Part.{Part}
 use Rattle.io_model.specs.Contents.{Content}
 use Rattle.io_model.specs.Kinds.{device_number, kind_after}
 use Rattle.io_model.specs.declared.file.Kind.{Kind}

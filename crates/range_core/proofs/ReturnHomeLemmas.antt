@@ -6,7 +6,7 @@ use Rattle.iob_base.specs.declared.stamp.Op.{Op}
 use Rattle.iob_base.specs.declared.stamp.Op.TheVariants.{Read, Write}
 use Rattle.fault_device.specs.Transfer.{block_read, block_written, parts_read, parts_written}
 use Rattle.fault_device.specs.declared.lane.Done.{Done}
-use Rattle.fault_device.specs.declared.part.Part.{Part}
+use Rattle.iob_base.specs.declared.part.Part.{Part}
 use Rattle.io_model.specs.Kinds.{device_number}
 use Rattle.turn_cell.specs.Stakes.{total}
 use Rattle.range_core.specs.BlockTruth.{IsWholePage, gone, is_gone}

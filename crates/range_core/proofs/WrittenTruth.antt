@@ -8,7 +8,7 @@ use Rattle.iob_base.specs.declared.TheConstants.{WORN}
 use Rattle.iob_base.specs.declared.sector.Page.{Page}
 use Rattle.iob_base.specs.declared.stamp.Op.TheVariants.{Write}
 use Rattle.fault_device.specs.declared.lane.Done.{Done}
-use Rattle.fault_device.specs.declared.part.Part.{Part}
+use Rattle.iob_base.specs.declared.part.Part.{Part}
 use Rattle.io_model.specs.Contents.{Content}
 use Rattle.io_model.specs.Kinds.{device_number}
 use Rattle.io_model.specs.declared.file.Kind.{Kind}

@@ -3,7 +3,7 @@ use Rattle.std.specs.Prelude.{◌≡◌, ◌≢◌, ℕ, ◌-◌, ◌<◌, Bool,
 use mathlib.Core.Option.{some}
 use lib.ListN.{get_elem?}
 use Rattle.iob_base.specs.declared.sector.Page.{Page}
-use Rattle.fault_device.specs.declared.part.Part.{Part}
+use Rattle.iob_base.specs.declared.part.Part.{Part}
 use Rattle.io_model.specs.Contents.{Content, zeros}
 use Rattle.io_model.specs.Kinds.{device_number, kind_after}
 use Rattle.io_model.specs.declared.file.Kind.TheVariants.{Hole}

@@ -4,7 +4,7 @@ use Rattle.iob_base.specs.declared.sector.Page.{Page}
 use Rattle.iob_base.specs.declared.stamp.Mode.TheVariants.{Cached}
 use Rattle.fault_device.specs.Transfer.{CanTransfer}
 use Rattle.fault_device.specs.declared.lane.Done.{Done}
-use Rattle.fault_device.specs.declared.part.Part.{Part}
+use Rattle.iob_base.specs.declared.part.Part.{Part}
 use Rattle.io_model.specs.Kinds.{is_kind, kind_after}
 use Rattle.io_model.specs.declared.file.Kind.{Kind}
 use Rattle.range_core.specs.ClaimsView.{ClaimsView, released}

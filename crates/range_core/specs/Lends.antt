@@ -3,7 +3,7 @@ use Rattle.std.specs.Prelude.{◌≡◌, ℕ, ◌+◌, ◌-◌, ◌%◌, ◌^◌
 use Rattle.iob_base.specs.DeviceBlock.{BLANK}
 use Rattle.iob_base.specs.Layout.{Layout}
 use Rattle.iob_base.specs.declared.sector.Page.{Page}
-use Rattle.fault_device.specs.declared.part.Part.{Part}
+use Rattle.iob_base.specs.declared.part.Part.{Part}
 use Rattle.io_model.specs.declared.file.Kind.{Kind}
 use Rattle.range_core.specs.ClaimsView.{ClaimsView, holding}
 use Rattle.range_core.specs.Kinds.{written_kind}

@@ -1,7 +1,6 @@
 //! What came of lending blocks for a caller's own pages.
 use crate::fault::EventFault;
-use crate::lending::Lent;
-use iov_iter::Pages;
+use crate::lending::{Lent, Pages};
 
 /// What came of lending blocks for a caller's own pages.
 #[derive(Drop)]

@@ -2,9 +2,9 @@
 ghost use Rattle.std.specs.Prelude.{◌≡◌, ◌≤◌, IfOk, replicate};
 ghost use Rattle.range_core.specs.Pages.{zero_page};
 
+use crate::lending::Pages;
 use arrayvec::ArrayVec;
 use iob_base::{Items, Page};
-use iov_iter::Pages;
 use std::alloc::{AllocError, Global};
 
 /// A page of zeros of the cache. Want of memory is the only error.

@@ -7,12 +7,11 @@ ghost use Rattle.range_core.specs.OnRun.{on_each, on_run};
 
 use crate::cell::Cell;
 use crate::claims::Claims;
-use crate::lending::{Away, Held, Lender, Lent};
+use crate::lending::{Away, Held, Lender, Lent, Pages};
 use arrayvec::ArrayVec;
 use fault_device::Part;
 use io_model::Kind;
 use iob_base::{Page, Sector};
-use iov_iter::Pages;
 use std::alloc::Global;
 use std::snapshot::Snapshot;
 

@@ -2,9 +2,12 @@
 use arrayvec::ArrayVec;
 use fault_device::Part;
 use io_model::Kind;
-use iob_base::{Op, Tag};
+use iob_base::{Op, Page, Tag};
 use std::alloc::Global;
 use std::snapshot::Snapshot;
+
+/// The pages of one transfer.
+pub type Pages = ArrayVec<Page, 16, Global>;
 
 /// The event that lent a block: a read of it into the page cache, a write of its dirty page, or a transfer of a
 /// caller's own pages.

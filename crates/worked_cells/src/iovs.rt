@@ -1,11 +1,12 @@
 //! The iov: segments of odd lengths in small and large pages, and each call once.
-ghost use Rattle.std.specs.Prelude.{◌≡◌, ◌+◌, ◌<◌, ◌≤◌, ◌^◌, IfOk, length, sum};
+ghost use Rattle.std.specs.Prelude.{◌≡◌, ◌+◌, ◌<◌, ◌≤◌, ◌^◌, [], IfOk, length, sum};
 ghost use Rattle.iov_iter.specs.Kept.{IsIov};
 ghost use Rattle.iov_iter.specs.Making.{IsPageSize, sizes_of};
 ghost use Rattle.iov_iter.specs.Moving.{CanTake, page_of};
 ghost use Rattle.worked_cells.specs.Iovs.{IsReady};
 
-use iov_iter::{IovIter, Pages};
+use iob_base::Parts;
+use iov_iter::IovIter;
 use std::alloc::{AllocError, Global};
 use std::process::Abort;
 use std::test::Fail;
@@ -66,17 +67,18 @@ fn first_unaligned_segment_is_named(rt: HostRuntime) -> Result<(), Fail> {
 }
 
 // Two pages go out, come back to their places, and leave the iov as it was.
-fn lends_two_pages(alloc: Global, iov: &mut IovIter)
+fn lends_two_pages(iov: &mut IovIter, parts: &mut Parts)
+    requires empty { parts.old ≡ [] }
     requires valid { IsIov iov.old }
     requires size { iov.old.page_size ≡ 16 }
     requires start { iov.old.place ≡ 0 }
     requires first { page_of iov.old.pages iov.old.place ≡ 0 }
     requires whole { CanTake iov.old 2 }
-    ensures { iov.new ≡ iov.old }
+    ensures same { iov.new ≡ iov.old }
+    ensures emptied { parts.new ≡ [] }
 {
-    let mut pages = Pages::new_in(alloc);
-    iov.take_pages(2, &mut pages);
-    iov.put_pages(0, pages);
+    iov.take_pages(2, parts);
+    iov.put_pages(0, parts);
     iov.revert(32);
 }
 
@@ -84,8 +86,9 @@ fn lends_two_pages(alloc: Global, iov: &mut IovIter)
 fn pages_come_back_to_their_places(rt: HostRuntime) -> Result<(), Fail> {
     let mut iov = IovIter::zeroed(rt.alloc(), 16, 7, &[48, 5])?;
     let _ = iov.count();
-    lends_two_pages(rt.alloc(), &mut iov);
-    assert_eq!(rt; iov.count(), 53);
+    let mut parts = Parts::new(rt.alloc())?;
+    lends_two_pages(&mut iov, &mut parts);
+    assert_eq!(rt; (iov.count(), parts.len()), (53, 0));
     Ok(())
 }
 

@@ -1,12 +1,11 @@
 //! The small crates: the bits of a folio, a countdown, a lane with its fate, and bios.
-use arrayvec::ArrayVec;
 use bio_pages::{Bio, run_bio};
-use fault_device::{Done, Lane, Listed, Part, can_transfer};
+use fault_device::{Done, Lane, Listed, can_transfer};
 use folio_bits::{
     Countdown, Ended, FolioBits, Outcome, last_is_told_after_all, one_is_told_last,
     somebody_is_told_last,
 };
-use iob_base::{Geometry, Items, Op, Page, sectors};
+use iob_base::{Geometry, Items, Op, Page, Part, Parts, sectors};
 use std::alloc::{AllocError, Global};
 use std::process::Abort;
 use std::test::Fail;
@@ -96,10 +95,12 @@ fn page(alloc: Global, number: u64, fill: u8) -> Result<Page, AllocError> {
 // Blocks 0, 1 and 2 of bytes ee, each with a page of bytes 41.
 fn bio_of_three(alloc: Global, op: Op) -> Result<Bio<u64>, Fail> {
     let geometry = Geometry::new(BLOCK, 4)?;
-    let mut parts = ArrayVec::new_in(alloc);
+    let mut parts = Parts::new(alloc)?;
     for sector in sectors(alloc, geometry, 3, 0xee)? {
         let page = page(alloc, 0, 0x41)?;
-        parts.try_push(Part { sector, page })?;
+        if parts.len() < 16 {
+            parts.push(Part { sector, page });
+        }
     }
     Ok(Bio {
         op,

@@ -12,10 +12,9 @@ use arrayvec::ArrayVec;
 use fault_device::{Done, Lane, can_transfer};
 use io_model::{Extent, Kind};
 use iob_base::{Items, Op, Page, Tag};
-use iov_iter::Pages;
 use range_core::{
     Direct, DirectRefused, EndDirect, EndWriteback, EventFault, FillPages, LendCold, LendDirty,
-    LendPages, Lender, Lent, ReadNow,
+    LendPages, Lender, Lent, Pages, ReadNow,
 };
 use std::alloc::{AllocError, Global};
 use std::process::Abort;

@@ -2,7 +2,7 @@
 use crate::range_loans::{Back, Loan, Now, Refused};
 use fault_device::Done;
 use io_model::{Extent, Kind};
-use iov_iter::Pages;
+use range_core::Pages;
 use range_core::{EventFault, Sample};
 use std::alloc::{AllocError, Global};
 

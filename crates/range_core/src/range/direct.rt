@@ -15,7 +15,7 @@ use crate::cookie::{stale_stop, worn_stop};
 use crate::direct_answer::{Direct, DirectRefused};
 use crate::fault::EventFault;
 use crate::lend::{bring_home, lend_blocks, mark_run_written};
-use crate::lending::{Away, Lender, Lent};
+use crate::lending::{Away, Lender, Lent, Pages};
 use crate::sample::Sample;
 use crate::stamps::{add_stamps, stamp_done};
 use crate::stops::{IsAway, IsDirty, first_stop};
@@ -23,7 +23,6 @@ use arrayvec::ArrayVec;
 use fault_device::Done;
 use io_model::Kind;
 use iob_base::{Items, Mark, Op, Page, Stamp, Tag, WORN};
-use iov_iter::Pages;
 use std::alloc::Global;
 use turn_cell::Change;
 

@@ -12,12 +12,11 @@ use crate::fault::EventFault;
 use crate::fresh::fresh_transfer;
 use crate::leading::{Joins, leading_run, most_lent};
 use crate::lend::{Parts, bring_home, lend_blocks};
-use crate::lending::{Away, Lender, Lent};
+use crate::lending::{Away, Lender, Lent, Pages};
 use crate::stops::{Hinders, IsAway, IsWarm, is_cold_block};
 use fault_device::Done;
 use io_model::Kind;
 use iob_base::{Op, Page};
-use iov_iter::Pages;
 use turn_cell::Change;
 
 /// A block is read together with one of this kind, the first of its run.

@@ -12,13 +12,12 @@ use crate::claims::Claims;
 use crate::fault::EventFault;
 use crate::leading::{Joins, leading_run, most_lent};
 use crate::lend::{Parts, bring_home, lend_blocks, mark_run_written};
-use crate::lending::{Away, Lender, Lent};
+use crate::lending::{Away, Lender, Lent, Pages};
 use crate::stops::{Hinders, IsAway, IsNotReady};
 use arrayvec::ArrayVec;
 use fault_device::Done;
 use io_model::Kind;
 use iob_base::{Items, Op, Page, WORN};
-use iov_iter::Pages;
 use std::alloc::{AllocError, Global};
 use turn_cell::Change;
 

@@ -1,12 +1,12 @@
-use Rattle.std.proofs.Common.{◌≡◌, ◌++◌, length, take, drop}
+use Rattle.std.proofs.Common.{◌≡◌, ◌+◌, ◌++◌, map, take, drop}
+use Rattle.iob_base.specs.Parting.{pages_of, without_page}
 use Rattle.iov_iter.specs.Runs.{FitIn, slots_put}
 use Rattle.iov_iter.proofs.pages.put_run.Given as goal
 
-abbrev pub invariant-loop-page : goal.invariant-loop-page
-invariant-loop-page l = record {
-  fit : FitIn (drop l.at l.slots.items) l.pages;
-  slots : take l.at l.slots.items ++ slots_put (drop l.at l.slots.items) l.pages ≡ take l.first l.initial.slots.items ++ slots_put (drop l.first l.initial.slots.items) l.initial.pages;
+abbrev pub invariant-loop-part : goal.invariant-loop-part
+invariant-loop-part l = record {
+  at : l.at ≡ l.first + l.part-index;
+  fit : FitIn (drop l.at l.slots.items) (pages_of (drop l.part-index l.initial.parts));
+  slots : take l.at l.slots.items ++ slots_put (drop l.at l.slots.items) (pages_of (drop l.part-index l.initial.parts)) ≡ take l.first l.initial.slots.items ++ slots_put (drop l.first l.initial.slots.items) (pages_of l.initial.parts);
+  parts : l.parts ≡ map without_page (take l.part-index l.initial.parts) ++ drop l.part-index l.initial.parts;
 }
-
-abbrev pub decreases-loop-page : goal.decreases-loop-page
-decreases-loop-page l = length l.pages

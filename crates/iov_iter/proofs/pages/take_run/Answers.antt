@@ -1,5 +1,7 @@
 use Rattle.std.proofs.Common.{◌≡◌, ◌+◌, ◌++◌, ◌<◌, List, [], ◌∷◌, length, map, take, drop, get_or, set, arith, sym, ap, ◌∙◌, append_assoc, length-drop}
-use Rattle.std.proofs.lemmas.List.{get_or-drop, map_more}
+use Rattle.std.proofs.lemmas.List.{get_or-drop, map_more, map_push}
+use Rattle.iob_base.specs.Parting.{bare_part, bare_parts}
+use Rattle.iob_base.specs.declared.part.Part.{Part}
 use Rattle.iob_base.specs.declared.sector.Page.{Page}
 use Rattle.iov_iter.specs.Runs.{page_in, slot_out}
 use Rattle.iov_iter.specs.Slots.{SlotView}
@@ -28,8 +30,10 @@ loop-i-preserved c =
     map_more page_in (drop c.args.first c.args.slots.now.items) c.loop-i.i c.index_mut.result.now (omega (arith, length-drop c.args.first c.args.slots.now.items, c.loop-i-test.true, there))
     ∙ ap (λ (g : Page). map page_in (take c.loop-i.i (drop c.args.first c.args.slots.now.items)) ++ g ∷ []) (ap page_in inner ∙ sym (same_page c.take.result c.index_mut.result.now c.take.ensures.number c.take.ensures.bytes)) in
     record {
-      pages = c.push.ensures.items ∙ ap (λ (gs : List Page). gs ++ c.take.result ∷ []) c.loop-i.invariant.pages
-          ∙ append_assoc c.args.into.now.items (map page_in (take c.loop-i.i (drop c.args.first c.args.slots.now.items))) (c.take.result ∷ []) ∙ ap (λ (gs : List Page). c.args.into.now.items ++ gs) (sym more);
+      pages = c.push_page.ensures ∙ ap (λ (ps : List Part). ps ++ bare_part c.take.result ∷ []) c.loop-i.invariant.pages
+          ∙ append_assoc c.args.into.now (bare_parts (map page_in (take c.loop-i.i (drop c.args.first c.args.slots.now.items)))) (bare_part c.take.result ∷ [])
+          ∙ ap (λ (ps : List Part). c.args.into.now ++ ps) (sym (map_push bare_part (map page_in (take c.loop-i.i (drop c.args.first c.args.slots.now.items))) c.take.result))
+          ∙ ap (λ (gs : List Page). c.args.into.now ++ bare_parts gs) (sym more);
       slots = ap (λ (l : List SlotView). set l (c.args.first + c.loop-i.i) c.take.new.self) c.loop-i.invariant.slots
           ∙ run_more slot_out c.args.first c.loop-i.i c.args.slots.now.items c.take.new.self c.index_mut.result.now there (c.take.ensures.slot ∙ ap slot_out is);
     }

@@ -1,6 +1,6 @@
 use Rattle.std.proofs.Common.{◌≡◌, ◌+◌, ◌*◌, ◌++◌, List, drop, arith, refl, sym, ap, ◌∙◌, subst, length-drop}
 use Rattle.std.proofs.lemmas.List.{drop-map}
-use Rattle.iob_base.specs.declared.sector.Page.{Page}
+use Rattle.iob_base.specs.Parting.{bare_parts}
 use Rattle.iov_iter.specs.IovView.{IovView, PagePlace}
 use Rattle.iov_iter.specs.Kept.{IsIov}
 use Rattle.iov_iter.specs.Moving.{AreWhole, CanTake, after_take, next_pages}
@@ -51,7 +51,7 @@ invariant_of-self c =
 
 pub returns-clause-pages : goal.returns-clause-pages
 returns-clause-pages c =
-    c.take_run.ensures.pages ∙ ap (λ (gs : List Page). c.args.into.now.items ++ gs)
+    c.take_run.ensures.pages ∙ ap (λ (gs : List Page). c.args.into.now ++ bare_parts gs)
     (view_next c.self.inside.page_size c.self.inside.slots.items c.self.inside.lengths.items c.self.inside.place c.args.n c.spot_at-spot.result.page (taken c).is (taken c).begins ∙ ap (λ (v : IovView). next_pages v c.args.n) c.self.view_is)
 
 pub returns-clause-state : goal.returns-clause-state

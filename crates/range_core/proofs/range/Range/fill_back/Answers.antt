@@ -1,7 +1,7 @@
 use Rattle.std.proofs.Common.{ℕ, List, sym, ap, ◌∙◌, subst}
 use Rattle.std.specs.Prelude.{slice_get}
 use Rattle.iob_base.specs.declared.stamp.Op.TheVariants.{Read}
-use Rattle.fault_device.specs.declared.part.Part.{Part}
+use Rattle.iob_base.specs.declared.part.Part.{Part}
 use Rattle.turn_cell.specs.Seats.{seat_claims, seat_view}
 use Rattle.range_core.specs.Fills.{filled_of}
 use Rattle.range_core.specs.RangeView.{RangeView, range_view}

@@ -1,6 +1,6 @@
 use Rattle.std.proofs.Common.{◌≡◌, length, arith, sym, ap, ◌∙◌}
 use Rattle.std.proofs.lemmas.List.{length-map}
-use Rattle.fault_device.specs.declared.part.Part.{Part}
+use Rattle.iob_base.specs.declared.part.Part.{Part}
 use Rattle.range_core.specs.Fills.{filled_of}
 use Rattle.range_core.specs.Lends.{home_of}
 use Rattle.range_core.specs.OnRun.{on_each}
