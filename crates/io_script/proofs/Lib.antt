@@ -1,4 +1,5 @@
 pub mod Appended
+pub mod Computed
 pub mod Cutting
 pub mod Digits
 pub mod Ended

@@ -35,6 +35,11 @@ abbrev pub tail : List Word → List Word
 tail [] = []
 tail (w ∷ ws) = ws
 
+-- one for a word, none for the empty place of a word that is missing
+abbrev pub one_if_any : Word → ℕ
+one_if_any [] = 0
+one_if_any (b ∷ bs) = 1
+
 abbrev pub fields_of : List Word → Fields
 fields_of ws = record {
   count = length ws;

@@ -15,17 +15,25 @@ fn is_hex_digit(b: u8) -> bool
     matches!(b, b'0'..=b'9' | b'a'..=b'f' | b'A'..=b'F')
 }
 
+/// The value of each byte as a hexadecimal digit, in either case, and 0 where it is none.
+static DIGITS: [u8; 256] = [
+    0, 0, 0, 0, 0, 0, 0, 0, 0, 0, 0, 0, 0, 0, 0, 0, 0, 0, 0, 0, 0, 0, 0, 0, 0, 0, 0, 0, 0, 0, 0, 0,
+    0, 0, 0, 0, 0, 0, 0, 0, 0, 0, 0, 0, 0, 0, 0, 0, 0, 1, 2, 3, 4, 5, 6, 7, 8, 9, 0, 0, 0, 0, 0, 0,
+    0, 10, 11, 12, 13, 14, 15, 0, 0, 0, 0, 0, 0, 0, 0, 0, 0, 0, 0, 0, 0, 0, 0, 0, 0, 0, 0, 0, 0, 0,
+    0, 0, 0, 10, 11, 12, 13, 14, 15, 0, 0, 0, 0, 0, 0, 0, 0, 0, 0, 0, 0, 0, 0, 0, 0, 0, 0, 0, 0, 0,
+    0, 0, 0, 0, 0, 0, 0, 0, 0, 0, 0, 0, 0, 0, 0, 0, 0, 0, 0, 0, 0, 0, 0, 0, 0, 0, 0, 0, 0, 0, 0, 0,
+    0, 0, 0, 0, 0, 0, 0, 0, 0, 0, 0, 0, 0, 0, 0, 0, 0, 0, 0, 0, 0, 0, 0, 0, 0, 0, 0, 0, 0, 0, 0, 0,
+    0, 0, 0, 0, 0, 0, 0, 0, 0, 0, 0, 0, 0, 0, 0, 0, 0, 0, 0, 0, 0, 0, 0, 0, 0, 0, 0, 0, 0, 0, 0, 0,
+    0, 0, 0, 0, 0, 0, 0, 0, 0, 0, 0, 0, 0, 0, 0, 0, 0, 0, 0, 0, 0, 0, 0, 0, 0, 0, 0, 0, 0, 0, 0, 0,
+    0, 0, 0, 0,
+];
+
 /// The value of a hexadecimal digit, and 0 for any other byte.
 fn digit_value(b: u8) -> u8
     ensures value { result ≡ hex_value b }
     ensures small { result ≤ 15 }
 {
-    match b {
-        b'0'..=b'9' => b - b'0',
-        b'a'..=b'f' => b - b'a' + 10,
-        b'A'..=b'F' => b - b'A' + 10,
-        _ => 0,
-    }
+    DIGITS[b as usize]
 }
 
 /// The byte that two hexadecimal digits say.
@@ -39,7 +47,12 @@ fn byte_value(high: u8, low: u8) -> u8
 fn has_hex_alone(word: &[u8]) -> bool
     ensures { result ≡ list_all is_hex word.now }
 {
-    word.iter().all(|b| is_hex_digit(*b))
+    // A look that never stops early goes over many bytes at a time.
+    let mut all = true;
+    for b in word {
+        all &= is_hex_digit(*b);
+    }
+    all
 }
 
 /// Whether a word is an even number of hexadecimal digits, at least two.
@@ -103,16 +116,12 @@ pub fn segment_size(word: &[u8]) -> u64
 }
 
 /// The bytes of hexadecimal digits. Want of memory is the only error.
-#[tactic(auto, using(crate::proofs::Hexes::hexes))]
 fn decode(alloc: Global, word: &[u8]) -> Result<Items<u8>, AllocError>
     ensures { IfOk result (λ bytes. bytes ≡ hex_bytes word.now) }
 {
-    let mut bytes = Vec::with_capacity(alloc, word.len() / 2)?;
-    let mut left = word;
-    while left.len() >= 2 {
-        let (pair, more) = left.split_at(2);
-        bytes.push(byte_value(pair[0], pair[1]))?;
-        left = more;
+    let mut bytes = vec![in alloc; 0u8; word.len() / 2]?;
+    'pairs: for i in 0..bytes.len() {
+        bytes[i] = byte_value(word[2 * i], word[2 * i + 1]);
     }
     Ok(Items::from_vec(bytes))
 }
