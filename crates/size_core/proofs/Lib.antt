@@ -1,0 +1,5 @@
+pub mod ReplayLemmas
+pub mod Apart
+pub mod Keeping
+pub mod Turning
+pub mod FirstTruth
