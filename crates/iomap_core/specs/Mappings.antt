@@ -1,5 +1,6 @@
 -- Mappings of ranges of a file, after the operations guide of iomap.
 use Rattle.std.specs.Prelude.{◌≡◌, ℕ, ◌+◌, ◌<◌, ◌≤◌, ◌^◌, ◌⊎◌, Bool, true, false, is_some, Option, Some, None}
+use Rattle.std.proofs.Common.{ap, inl, inr}
 use Rattle.iob_base.specs.declared.stamp.FileId.{FileId}
 use Rattle.iomap_core.specs.declared.mapping.Iomap.{Iomap}
 use Rattle.iomap_core.specs.declared.mapping.IomapType.{IomapType}
@@ -29,3 +30,8 @@ found_stale m = record m { flags = record m.flags { stale = true } }
 abbrev pub IsSameMapping : Option Iomap → Iomap → Type 0
 IsSameMapping None m = ⊥
 IsSameMapping (Some was) m = (m ≡ was) ⊎ (m ≡ found_stale was)
+
+-- a mapping that is found stale is still the same
+pub stale-same : (was : Option Iomap) (m : Iomap) → IsSameMapping was m → IsSameMapping was (found_stale m)
+stale-same None m same = same
+stale-same (Some was) m same = elim same [ inl e ↦ inr (ap found_stale e) | inr e ↦ inr (ap found_stale e) ]

@@ -7,13 +7,13 @@ use Rattle.turn_cell.specs.Laws.{Stands}
 use Rattle.turn_cell.proofs.Sums.{total-set, total-at}
 use Rattle.size_core.specs.ClaimsView.{ClaimsView, MayMerge, merged_claims, next_claims, rest_claims, same_claims}
 use Rattle.size_core.specs.History.{stamps_of, stamps_in}
-use Rattle.size_core.specs.Replay.{replayed_size, finds_replays}
+use Rattle.size_core.specs.Replay.{replayed_size, sees_replayed}
 use Rattle.size_core.specs.SizesView.{SizesView, CanUse}
 use Rattle.size_core.specs.SizeTruth.{SizeStake, SizeTruth, rooms}
 use Rattle.size_core.specs.declared.entry.SizeEntry.{SizeEntry}
-use Rattle.size_core.specs.declared.stamp.SizeStamp.{SizeStamp}
+use Rattle.io_model.specs.declared.file.SizeStamp.{SizeStamp}
 use Rattle.size_core.proofs.Apart.{apart_more, apart_merged, apart_with_next, apart_with_same, merged-total, parted-total}
-use Rattle.size_core.proofs.ReplayLemmas.{stamps_in-snoc, replayed_size-append, finds_replays-append}
+use Rattle.size_core.proofs.ReplayLemmas.{stamps_in-snoc, replayed_size-append, sees_replayed-append}
 
 -- One turn of a seat leaves the size `next` and so many rooms, and its entry says so
 pub record Steps (value next : SizesView) (claims : ClaimsView) (left : ℕ) (entry : SizeEntry) : Type 0 where
@@ -21,7 +21,7 @@ pub record Steps (value next : SizesView) (claims : ClaimsView) (left : ℕ) (en
   pub within : next.size ≤ next.end
   pub stamps : next.stamps ≡ value.stamps ++ stamps_of entry.event
   pub size : next.size ≡ replayed_size value.size (stamps_of entry.event)
-  pub finds : finds_replays value.size (stamps_of entry.event) ≡ true
+  pub finds : sees_replayed value.size (stamps_of entry.event) ≡ true
   pub rooms : next.rooms + claims.rooms ≡ value.rooms + left
   pub caller : entry.caller ≡ claims.caller
 
@@ -43,14 +43,14 @@ module _ {opening value : SizesView} {history : List SizeEntry} {stakes : List S
       let entered : stamps_in (history ++ entry ∷ []) ≡ stamps_in history ++ more = stamps_in-snoc history entry in
       let sum : total rooms (set stakes number (Some (record claims { rooms = left }), made ++ entry ∷ [])) + claims.rooms ≡ total rooms stakes + left =
       total-set rooms stakes number (Some claims, made) (Some (record claims { rooms = left }), made ++ entry ∷ []) stands.here in
-      let F : List SizeStamp → Type 0 = λ l. finds_replays opening.size l ≡ true in
-      let G : ℕ → Type 0 = λ n. finds_replays n more ≡ true in
+      let F : List SizeStamp → Type 0 = λ l. sees_replayed opening.size l ≡ true in
+      let G : ℕ → Type 0 = λ n. sees_replayed n more ≡ true in
       record {
         same_end = step.end ∙ t.same_end;
         within = step.within;
         journal_is_history = step.stamps ∙ ap (λ l. l ++ more) t.journal_is_history ∙ append_assoc opening.stamps (stamps_in history) more ∙ sym (ap (λ l. opening.stamps ++ l) entered);
         size_is_replay = step.size ∙ ap (λ n. replayed_size n more) t.size_is_replay ∙ sym (replayed_size-append opening.size (stamps_in history) more) ∙ sym (ap (replayed_size opening.size) entered);
-        looks_found_replays = subst F (sym entered) (finds_replays-append opening.size (stamps_in history) more t.looks_found_replays (subst G t.size_is_replay step.finds));
+        looks_found_replays = subst F (sym entered) (sees_replayed-append opening.size (stamps_in history) more t.looks_found_replays (subst G t.size_is_replay step.finds));
         rooms_are_promised = let r = step.rooms in let p = t.rooms_are_promised in omega arith;
         callers_are_apart = λ caller h. apart_more caller history entry stakes number claims left made (made ++ entry ∷ []) stands.here step.caller (t.callers_are_apart caller h);
       }

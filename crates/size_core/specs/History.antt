@@ -4,8 +4,8 @@ use Rattle.size_core.specs.SizesView.{stamp_by}
 use Rattle.size_core.specs.declared.entry.SizeEntry.{SizeEntry}
 use Rattle.size_core.specs.declared.entry.SizeEvent.{SizeEvent}
 use Rattle.size_core.specs.declared.entry.SizeEvent.TheVariants.{See, Ready, Grow, Cut, Forget}
-use Rattle.size_core.specs.declared.stamp.SizeMark.TheVariants as mark
-use Rattle.size_core.specs.declared.stamp.SizeStamp.{SizeStamp}
+use Rattle.io_model.specs.declared.file.SizeMark.TheVariants as mark
+use Rattle.io_model.specs.declared.file.SizeStamp.{SizeStamp}
 
 -- what an event enters into the journal
 abbrev pub stamps_of : SizeEvent → List SizeStamp

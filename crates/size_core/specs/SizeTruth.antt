@@ -3,7 +3,7 @@ use Rattle.std.specs.Prelude.{◌≡◌, ℕ, ◌+◌, ◌<◌, ◌≤◌, ◌^�
 use Rattle.turn_cell.specs.Stakes.{Stake, total}
 use Rattle.size_core.specs.ClaimsView.{ClaimsView}
 use Rattle.size_core.specs.History.{stamps_in, one_where, made_as}
-use Rattle.size_core.specs.Replay.{replayed_size, finds_replays}
+use Rattle.size_core.specs.Replay.{replayed_size, sees_replayed}
 use Rattle.size_core.specs.SizesView.{SizesView}
 use Rattle.size_core.specs.declared.entry.SizeEntry.{SizeEntry}
 
@@ -52,6 +52,6 @@ pub record SizeTruth (opening now : SizesView) (history : List SizeEntry) (stake
   pub within : now.size ≤ now.end
   pub journal_is_history : now.stamps ≡ opening.stamps ++ stamps_in history
   pub size_is_replay : now.size ≡ replayed_size opening.size (stamps_in history)
-  pub looks_found_replays : finds_replays opening.size (stamps_in history) ≡ true
+  pub looks_found_replays : sees_replayed opening.size (stamps_in history) ≡ true
   pub rooms_are_promised : total rooms stakes ≡ now.rooms
   pub callers_are_apart : (caller : ℕ) → caller < 2 ^ 32 → IsApart caller history stakes

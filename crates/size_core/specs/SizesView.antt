@@ -2,9 +2,9 @@
 use Rattle.std.specs.Prelude.{ℕ, ◌+◌, ◌-◌, ◌<◌, ◌≤◌, max, List, [], ◌∷◌, ◌++◌}
 use Rattle.iob_base.specs.declared.stamp.Tag.{Tag}
 use Rattle.size_core.specs.ClaimsView.{ClaimsView}
-use Rattle.size_core.specs.declared.stamp.SizeMark.{SizeMark}
-use Rattle.size_core.specs.declared.stamp.SizeMark.TheVariants.{See, Grow, Cut}
-use Rattle.size_core.specs.declared.stamp.SizeStamp.{SizeStamp}
+use Rattle.io_model.specs.declared.file.SizeMark.{SizeMark}
+use Rattle.io_model.specs.declared.file.SizeMark.TheVariants.{See, Grow, Cut}
+use Rattle.io_model.specs.declared.file.SizeStamp.{SizeStamp}
 
 -- the size, the declared end, for how many entries seats have room, and the entries made
 pub record SizesView : Type 0 where

@@ -3,7 +3,6 @@
 //! The size is the value of a turn cell. Each event is the change of one turn, and what `specs/SizeTruth.antt` says holds
 //! between any two turns. A write makes room for its entry before it begins, so raising the size at its end takes no memory.
 //!
-//! - `stamp`: the entries of a size journal
 //! - `claims`: what a seat at a size claims
 //! - `sizes`: the size, its journal, and the events
 //! - `entry`: what one turn is in the history
@@ -15,12 +14,11 @@ mod chronicle;
 mod claims;
 mod entry;
 mod sizes;
-mod stamp;
 mod turns;
 
 pub use chronicle::{NextCaller, SameCaller};
 pub use claims::SizeClaims;
 pub use entry::{SizeEntry, SizeEvent};
+pub use io_model::{SizeMark, SizeStamp};
 pub use sizes::Sizes;
-pub use stamp::{SizeMark, SizeStamp};
 pub use turns::{CutSize, ForgetRoom, GrowSize, ReadyRoom, SeeSize};

@@ -3,7 +3,7 @@ ghost use Rattle.std.specs.Prelude.{◌≡◌, ◌≤◌, ◌<◌, ◌+◌, ◌^
 ghost use Rattle.size_core.specs.SizesView.{stamp_by};
 
 use crate::claims::SizeClaims;
-use crate::stamp::{SizeMark, SizeStamp};
+use io_model::{SizeMark, SizeStamp};
 use iob_base::Tag;
 use std::alloc::{AllocError, Global};
 use std::marker::Model;

@@ -6,9 +6,13 @@ mod iovs;
 #[cfg(test)]
 mod locks;
 #[cfg(test)]
+mod mappings;
+#[cfg(test)]
 mod maps;
 #[cfg(test)]
 mod pool;
+#[cfg(test)]
+mod sizes;
 #[cfg(test)]
 mod small;
 #[cfg(test)]

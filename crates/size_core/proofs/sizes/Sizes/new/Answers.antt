@@ -2,7 +2,7 @@ use Rattle.std.proofs.Common.{List, Some, [], ◌∷◌, sym, subst}
 use Rattle.size_core.specs.ClaimsView.{first_claims}
 use Rattle.size_core.specs.SizesView.{SizesView}
 use Rattle.size_core.specs.SizeTruth.{SizeTruth}
-use Rattle.size_core.specs.declared.stamp.SizeStamp.{SizeStamp}
+use Rattle.io_model.specs.declared.file.SizeStamp.{SizeStamp}
 use Rattle.size_core.proofs.FirstTruth.{first_truth}
 use Rattle.size_core.proofs.sizes.Sizes.new.Goals as goal
 
