@@ -1,5 +1,7 @@
 use Rattle.std.specs.Prelude.{◌≡◌, ℕ, ◌<◌, ◌≤◌, true, nat_lt, List, ◌++◌, length, take, drop, map, All, IfSome}
 use Rattle.iob_base.specs.Counts.{Rose}
+use Rattle.iob_base.specs.declared.stamp.Op.{Op}
+use Rattle.iob_base.specs.declared.stamp.Op.TheVariants.{Read, Write}
 use Rattle.fault_device.specs.LaneView.{LaneView}
 use Rattle.fault_device.specs.Ran.{Ran}
 use Rattle.fault_device.specs.Telling.{is_next_armed}
@@ -45,3 +47,8 @@ pub record Tells (n : ℕ) (old : LaneView) (done : Done) (new : LaneView) : Typ
   pub rose : done.failed ≡ true → Rose done.before done.after
   pub told : IfSome old.tells (λ t. done.failed ≡ is_next_armed t)
   pub ran : Ran 1 old new
+
+-- the parts after a transfer in this direction, of which so many blocks landed
+abbrev pub parts_after : Op → ℕ → List Part → List Part
+parts_after Read landed parts = parts_read landed parts
+parts_after Write landed parts = parts_written landed parts

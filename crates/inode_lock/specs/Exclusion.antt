@@ -1,13 +1,14 @@
 -- Class exclusion: the rule between the word of a lock and what its seats know, and what it means.
-use Rattle.std.specs.Prelude.{◌≡◌, ◌≢◌, ℕ, ◌+◌, ◌≤◌, List, [], ◌∷◌, length, slice_index, Option, Some, None, false, ◌==◌, if◌then◌else◌}
+use Rattle.std.specs.Prelude.{◌≡◌, ◌≢◌, ℕ, ◌+◌, ◌≤◌, List, [], ◌∷◌, length, slice_index, Option, Some, None, true, false, ◌==◌, if◌then◌else◌}
 use mathlib.Core.Option.{some}
 use lib.ListN.{get_elem?}
 use Rattle.atomic_table.specs.Table.{State}
 use Rattle.inode_lock.specs.declared.word.Class.{Class}
 use Rattle.inode_lock.specs.declared.word.Class.TheVariants.{Cached, Direct, Exclusive}
+use Rattle.inode_lock.specs.declared.steps.Placed.{Placed}
 use Rattle.inode_lock.specs.declared.steps.Known.{Known}
 use Rattle.inode_lock.specs.Word.{class_number, holds_in, class_in, told, excludes}
-use Rattle.inode_lock.specs.Log.{IsLogged}
+use Rattle.inode_lock.specs.Log.{is_at_word, found_by, word_after, IsLogged}
 
 -- 1 where this is the class held, else 0
 abbrev pub weight : Class → Option Class → ℕ
@@ -46,6 +47,12 @@ abbrev pub WordTellsTheHolds : Type 0
 WordTellsTheHolds =
     (s : State (Unit {0}) Known) → ClassesExclude s → (i : ℕ) (v : Known) (c : Class) → get_elem? s.views i ≡ some v → v.holds ≡ Some c
     → (class_in (slice_index s.words 0) ≡ class_number c) × (holds_in (slice_index s.words 0) ≡ holders c s.views)
+
+-- each word that a seat says it found is the one that the steps before its own had left
+abbrev pub EachWordWasFound : Type 0
+EachWordWasFound =
+    (s : State (Unit {0}) Known) (h : ClassesExclude s) (i j : ℕ) (v : Known) (p : Placed) → get_elem? s.views i ≡ some v → get_elem? v.steps j ≡ some p → is_at_word p.step ≡ true
+    → found_by p.step ≡ word_after 0 h.logged.log p.place
 
 -- where no seat holds a class, the word excludes none
 abbrev pub FreeLockAdmitsAll : Type 0

@@ -1,5 +1,5 @@
 -- The log of a lock: all steps of all seats at its word, in one order, each of which found the word that the one before it left.
-use Rattle.std.specs.Prelude.{◌≡◌, ℕ, ◌+◌, ◌≤◌, Bool, true, false, List, [], ◌∷◌, length, if◌then◌else◌}
+use Rattle.std.specs.Prelude.{◌≡◌, ℕ, zero, suc, ◌+◌, ◌-◌, ◌≤◌, Bool, true, false, List, [], ◌∷◌, length, if◌then◌else◌}
 use mathlib.Core.Option.{some}
 use lib.ListN.{get_elem?}
 use Rattle.inode_lock.specs.declared.steps.Step.{Step}
@@ -27,6 +27,26 @@ is_at_word (Look found) = true
 is_at_word (Take c found granted) = true
 is_at_word (Leave c found) = true
 is_at_word Split = false
+
+-- the word that a step found, and the word that it left
+abbrev pub found_by : Step → ℕ
+found_by (Look found) = found
+found_by (Take c found granted) = found
+found_by (Leave c found) = found
+found_by Split = 0
+
+abbrev pub left_by : Step → ℕ
+left_by (Look found) = found
+left_by (Take c found true) = word_of c (holds_in found + 1)
+left_by (Take c found false) = found
+left_by (Leave c found) = found - 1
+left_by Split = 0
+
+-- the word that so many steps left
+abbrev pub word_after : ℕ → List Placed → ℕ → ℕ
+word_after word [] k = word
+word_after word (p ∷ ps) zero = word
+word_after word (p ∷ ps) (suc k) = word_after (left_by p.step) ps k
 
 -- the weights of the steps at the word, added up
 abbrev pub weights : (Placed → ℕ) → List Placed → ℕ

@@ -1,6 +1,6 @@
 //! What class exclusion means, whatever the word and the seats of a lock are between two steps, and what the calls add
 //! to a seat's list of steps. Each law is a function that does nothing.
-ghost use Rattle.inode_lock.specs.Exclusion.{ExclusiveIsAlone, HoldsShareAClass, WordTellsTheHolds, FreeLockAdmitsAll};
+ghost use Rattle.inode_lock.specs.Exclusion.{ExclusiveIsAlone, HoldsShareAClass, WordTellsTheHolds, EachWordWasFound, FreeLockAdmitsAll};
 ghost use Rattle.inode_lock.specs.Growth.{GrantTakesOnce, WinTakesOnce, RefusalTakesNothing, LeaveLeavesOnce, HoldTakesAndLeaves, StayGrowsNothing, GrowthAdds};
 
 /// Where a seat holds the exclusive class, no other seat holds anything.
@@ -16,6 +16,11 @@ pub fn holds_share_a_class()
 /// Where a seat holds a class, the word tells that class and how many seats hold it.
 pub fn word_tells_the_holds()
     ensures { WordTellsTheHolds }
+{}
+
+/// Each word that a seat found is the one that the steps of all seats before its own had left.
+pub fn each_word_was_found()
+    ensures { EachWordWasFound }
 {}
 
 /// Where no seat holds a class, the word excludes none.

@@ -25,8 +25,8 @@ mod turns;
 mod word;
 
 pub use laws::{
-    calls_count_their_steps, exclusive_is_alone, free_lock_admits_all, holds_share_a_class,
-    word_tells_the_holds,
+    calls_count_their_steps, each_word_was_found, exclusive_is_alone, free_lock_admits_all,
+    holds_share_a_class, word_tells_the_holds,
 };
 pub use lock::InodeLock;
 pub use rule::Exclusion;
