@@ -3,6 +3,7 @@ use Rattle.std.proofs.Common.{◌≡◌, ◌≢◌, ℕ, ◌+◌, ◌≤◌, Lis
 use mathlib.Core.Option.{some}
 use lib.ListN.{get_elem?}
 use Rattle.atomic_table.proofs.Lists.{at_set, at_snoc, set_else}
+use Rattle.iob_base.specs.DeviceBlock.{DeviceBlock}
 use Rattle.turn_cell.specs.Stakes.{total}
 use Rattle.turn_cell.specs.Laws.{Stands}
 use Rattle.turn_cell.proofs.Sums.{total-append, total-set, total-at, total-count}
@@ -10,7 +11,7 @@ use Rattle.space_pool.specs.declared.claims.PoolClaims.{PoolClaims}
 use Rattle.space_pool.specs.declared.entry.PoolEntry.{PoolEntry}
 use Rattle.space_pool.specs.Claims.{ClaimsView, joined_claims}
 use Rattle.space_pool.specs.Pool.{PoolView, unreserved, with_stock, IsClaimOn}
-use Rattle.space_pool.specs.History.{unreserved_after, unreserved_since}
+use Rattle.space_pool.specs.History.{unreserved_after, unreserved_since, taken_by, given_by}
 use Rattle.space_pool.specs.Truth.{PoolStake, claimed, number_weight, IsWithin, PoolTruth}
 
 -- How one turn moves numbers and reservations between a pool and the claims of a seat
@@ -23,6 +24,7 @@ pub record Moves (p : PoolView) (c : ClaimsView) (q : PoolView) (d : ClaimsView)
   pub size : d.size ≡ c.size
   pub pool : q ≡ with_stock p q.free q.reserved
   pub counted : unreserved q ≡ unreserved_after (unreserved p) entry
+  pub stock : (f : DeviceBlock → ℕ) → total f q.free + total f (taken_by entry) ≡ total f p.free + total f (given_by entry)
 
 -- one entry more
 since-snoc : (count : ℕ) (es : List PoolEntry) (e : PoolEntry) → unreserved_since count (es ++ e ∷ []) ≡ unreserved_after (unreserved_since count es) e
@@ -87,6 +89,12 @@ module _ {opening value : PoolView} {history : List PoolEntry} {stakes : List Po
         reserved = omega (arith, change (λ c. c.reserved), m.reserved, truth.reserved);
         enough = m.enough;
         told = m.counted ∙ ap (λ n. unreserved_after n entry) truth.told ∙ sym (since-snoc (unreserved opening) history entry);
+        stock = λ f.
+            let t = total-append (λ (e : PoolEntry). total f (taken_by e)) history (entry ∷ []) in
+            let u = total-append (λ (e : PoolEntry). total f (given_by e)) history (entry ∷ []) in
+            let was = truth.stock f in
+            let now = m.stock f in
+            omega arith;
         same = m.pool ∙ ap (λ (p : PoolView). with_stock p next.free next.reserved) truth.same;
       }
 
@@ -116,6 +124,7 @@ module _ {opening value : PoolView} {history : List PoolEntry} {stakes : List Po
         reserved = omega (arith, change (λ c. c.reserved), reserved, truth.reserved);
         enough = truth.enough;
         told = truth.told;
+        stock = truth.stock;
         same = truth.same;
       }
 
@@ -153,5 +162,6 @@ module _ {opening value : PoolView} {history : List PoolEntry} {stakes : List Po
         reserved = omega (arith, change (λ c. c.reserved), truth.reserved);
         enough = truth.enough;
         told = truth.told;
+        stock = truth.stock;
         same = truth.same;
       }

@@ -5,6 +5,7 @@ pub mod Sizes
 mod States
 pub mod Keeping
 mod Moving
+mod Closing
 mod Parting
 mod Starting
 mod Standing

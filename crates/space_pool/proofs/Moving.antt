@@ -1,5 +1,5 @@
 -- What each call moves.
-use Rattle.std.proofs.Common.{◌≡◌, ℕ, ◌+◌, ◌-◌, ◌≤◌, Bool, true, false, cond, List, ◌++◌, length, min, nat_lt, ◌==◌, Result, Ok, Err, refl, sym, subst, arith, length-append}
+use Rattle.std.proofs.Common.{◌≡◌, ℕ, ◌+◌, ◌-◌, ◌≤◌, Bool, true, false, cond, List, ◌++◌, length, min, nat_lt, ◌==◌, Result, Ok, Err, refl, sym, ap, subst, arith, length-append}
 use Rattle.std.proofs.lemmas.Bool.Decides.{nat_tests}
 use Rattle.std.proofs.lemmas.List.{length-map}
 use Rattle.iob_base.specs.DeviceBlock.{DeviceBlock}
@@ -10,6 +10,7 @@ use Rattle.space_pool.specs.declared.entry.PoolEntry.{PoolEntry}
 use Rattle.space_pool.specs.declared.entry.PoolEntry.TheVariants.{Reserve, ReserveSome, Unreserve, Take, Give}
 use Rattle.space_pool.specs.Claims.{ClaimsView, numbers_of, Fits, with_more, with_fewer, with_taken, with_given, without}
 use Rattle.space_pool.specs.Pool.{PoolView, unreserved, IsClaimOn, no_space, more_reserved, fewer_reserved, with_free, CanGive, Reserves, ReservesSome, Unreserves, Takes, Gives}
+use Rattle.space_pool.specs.History.{unreserved_after, taken_by, given_by}
 use Rattle.space_pool.specs.Truth.{IsWithin}
 use Rattle.space_pool.proofs.Removing.{without-weighs, without-length}
 use Rattle.space_pool.proofs.States.{left-length, moved-length}
@@ -19,8 +20,8 @@ moves-at : (p : PoolView) (c : ClaimsView) (q q' : PoolView) (d d' : ClaimsView)
 moves-at p c q q' d d' e same same' m = subst (λ (x : PoolView). Moves p c x d e) (sym same) (subst (λ (y : ClaimsView). Moves p c q' y e) (sym same') m)
 
 -- nothing moves
-pub stays : (p : PoolView) (c : ClaimsView) (e : PoolEntry) → p.reserved ≤ length p.free → IsWithin c → unreserved p ≡ Rattle.space_pool.specs.History.unreserved_after (unreserved p) e → Moves p c p c e
-stays p c e enough within counted = record {
+pub stays : (p : PoolView) (c : ClaimsView) (e : PoolEntry) → p.reserved ≤ length p.free → IsWithin c → unreserved p ≡ unreserved_after (unreserved p) e → ((f : DeviceBlock → ℕ) → total f (taken_by e) ≡ total f (given_by e)) → Moves p c p c e
+stays p c e enough within counted quiet = record {
   numbers = λ f. refl;
   reserved = refl;
   enough = enough;
@@ -29,12 +30,13 @@ stays p c e enough within counted = record {
   size = refl;
   pool = refl;
   counted = counted;
+  stock = λ f. ap (λ (k : ℕ). total f p.free + k) (quiet f);
 }
 
 -- more is reserved
-more : (p : PoolView) (c : ClaimsView) (n : ℕ) (e : PoolEntry) → p.reserved + n ≤ length p.free → Fits c n → unreserved p - n ≡ Rattle.space_pool.specs.History.unreserved_after (unreserved p) e
+more : (p : PoolView) (c : ClaimsView) (n : ℕ) (e : PoolEntry) → p.reserved + n ≤ length p.free → Fits c n → unreserved p - n ≡ unreserved_after (unreserved p) e → ((f : DeviceBlock → ℕ) → total f (taken_by e) ≡ total f (given_by e))
     → Moves p c (more_reserved p n) (with_more c n) e
-more p c n e room fits counted = record {
+more p c n e room fits counted quiet = record {
   numbers = λ f. refl;
   reserved = omega arith;
   enough = room;
@@ -43,6 +45,7 @@ more p c n e room fits counted = record {
   size = refl;
   pool = refl;
   counted = omega arith;
+  stock = λ f. ap (λ (k : ℕ). total f p.free + k) (quiet f);
 }
 
 granted : (b : Bool) (e : NoSpace) (x : Unit {0}) → Ok x ≡ cond b (Err e) (Ok tt) → b ≡ false
@@ -54,8 +57,8 @@ pub reserve-moves : (n : ℕ) (p : PoolView) (c : ClaimsView) (answer : Result (
 reserve-moves n p c (Ok x) q d r enough fits =
     let b : nat_lt (unreserved p) n ≡ false = granted (nat_lt (unreserved p) n) (no_space n (unreserved p)) x r.found in
     let room : n ≤ unreserved p = grind (arith, nat_tests) in
-    moves-at p c q (more_reserved p n) d (with_more c n) (Reserve n (Ok x)) r.ok.0 r.ok.1 (more p c n (Reserve n (Ok x)) (omega arith) fits refl)
-reserve-moves n p c (Err x) q d r enough fits = moves-at p c q p d c (Reserve n (Err x)) r.err.0 r.err.1 (stays p c (Reserve n (Err x)) enough (omega arith) refl)
+    moves-at p c q (more_reserved p n) d (with_more c n) (Reserve n (Ok x)) r.ok.0 r.ok.1 (more p c n (Reserve n (Ok x)) (omega arith) fits refl (λ f. refl))
+reserve-moves n p c (Err x) q d r enough fits = moves-at p c q p d c (Reserve n (Err x)) r.err.0 r.err.1 (stays p c (Reserve n (Err x)) enough (omega arith) refl (λ f. refl))
 
 granted-some : (b : Bool) (e : NoSpace) (m k : ℕ) → Ok m ≡ cond b (Err e) (Ok k) → m ≡ k
 granted-some true e m k same = cc
@@ -65,8 +68,8 @@ pub reserve_some-moves : (n : ℕ) (p : PoolView) (c : ClaimsView) (answer : Res
     → Moves p c q d (ReserveSome n answer)
 reserve_some-moves n p c (Ok m) q d r enough fits =
     let is : m ≡ min n (unreserved p) = granted-some (unreserved p == 0) (no_space n (unreserved p)) m (min n (unreserved p)) r.found in
-    moves-at p c q (more_reserved p m) d (with_more c m) (ReserveSome n (Ok m)) r.ok.0 r.ok.1 (more p c m (ReserveSome n (Ok m)) (omega arith) (omega arith) refl)
-reserve_some-moves n p c (Err x) q d r enough fits = moves-at p c q p d c (ReserveSome n (Err x)) r.err.0 r.err.1 (stays p c (ReserveSome n (Err x)) enough (omega arith) refl)
+    moves-at p c q (more_reserved p m) d (with_more c m) (ReserveSome n (Ok m)) r.ok.0 r.ok.1 (more p c m (ReserveSome n (Ok m)) (omega arith) (omega arith) refl (λ f. refl))
+reserve_some-moves n p c (Err x) q d r enough fits = moves-at p c q p d c (ReserveSome n (Err x)) r.err.0 r.err.1 (stays p c (ReserveSome n (Err x)) enough (omega arith) refl (λ f. refl))
 
 pub unreserve-moves : (n : ℕ) (p : PoolView) (c : ClaimsView) (q : PoolView) (d : ClaimsView) → Unreserves n p c q d → p.reserved ≤ length p.free → IsWithin c → IsClaimOn p c → n ≤ c.reserved
     → Moves p c q d (Unreserve n)
@@ -81,6 +84,7 @@ unreserve-moves n p c q d u enough within claim few =
       size = refl;
       pool = refl;
       counted = omega arith;
+      stock = λ f. refl;
     })
 
 pub take-moves : (n : ℕ) (p : PoolView) (c : ClaimsView) (before : List DeviceBlock) (q : PoolView) (d : ClaimsView) (after : List DeviceBlock) (t : Takes n p c before q d after) → p.reserved ≤ length p.free → IsWithin c → IsClaimOn p c → n ≤ c.reserved
@@ -104,13 +108,14 @@ take-moves n p c before q d after t enough within claim few =
       size = refl;
       pool = refl;
       counted = omega arith;
+      stock = λ f. let w : total f p.free ≡ total f taken + total f q.free = t.lowest.moved f in omega arith;
     })
 
-pub give-moves : (given : List DeviceBlock) (p : PoolView) (c : ClaimsView) (q : PoolView) (d : ClaimsView) → Gives given p c q d → p.reserved ≤ length p.free → IsWithin c → CanGive given c → Moves p c q d (Give (length given))
+pub give-moves : (given : List DeviceBlock) (p : PoolView) (c : ClaimsView) (q : PoolView) (d : ClaimsView) → Gives given p c q d → p.reserved ≤ length p.free → IsWithin c → CanGive given c → Moves p c q d (Give (length given) given)
 give-moves given p c q d g enough within can =
     let l : length q.free ≡ length p.free + length given = moved-length p.free given q.free g.moved in
     let kept : length (without (numbers_of given) c.numbers) + length (numbers_of given) ≡ length c.numbers = without-length (numbers_of given) c.numbers can.among in
-    moves-at p c q (with_free p q.free) d (with_given c given) (Give (length given)) g.pool g.claims (record {
+    moves-at p c q (with_free p q.free) d (with_given c given) (Give (length given) given) g.pool g.claims (record {
       numbers = λ f.
           let w : total (λ s. f s.number) q.free ≡ total (λ s. f s.number) p.free + total (λ s. f s.number) given = g.moved (λ s. f s.number) in
           let a : total f (without (numbers_of given) c.numbers) + total f (numbers_of given) ≡ total f c.numbers = without-weighs f (numbers_of given) c.numbers can.among in
@@ -122,4 +127,5 @@ give-moves given p c q d g enough within can =
       size = refl;
       pool = refl;
       counted = omega arith;
+      stock = λ f. let w : total f q.free ≡ total f p.free + total f given = g.moved f in omega arith;
     })

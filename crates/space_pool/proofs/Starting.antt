@@ -45,5 +45,6 @@ truth-starts free held cap size state claims same state-is claims-is distinct fe
       reserved = omega arith;
       enough = omega arith;
       told = refl;
+      stock = λ f. refl;
       same = refl;
     }

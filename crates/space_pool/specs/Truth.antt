@@ -5,9 +5,10 @@ use lib.ListN.{get_elem?}
 use Rattle.turn_cell.specs.Stakes.{Stake, total}
 use Rattle.space_pool.specs.declared.claims.PoolClaims.{PoolClaims}
 use Rattle.space_pool.specs.declared.entry.PoolEntry.{PoolEntry}
+use Rattle.space_pool.specs.Sectors.{SameSectors}
 use Rattle.space_pool.specs.Claims.{ClaimsView}
 use Rattle.space_pool.specs.Pool.{PoolView, AreDistinct, unreserved, with_stock}
-use Rattle.space_pool.specs.History.{unreserved_since}
+use Rattle.space_pool.specs.History.{unreserved_since, LeavesFree}
 
 abbrev pub PoolStake : Type 0
 PoolStake = Stake PoolClaims PoolEntry
@@ -37,11 +38,18 @@ pub record KeepsCaps (opening : PoolView) (stakes : List PoolStake) : Type 0 whe
   pub adds : total (claimed (λ c. c.cap)) stakes ≡ opening.cap
   pub within : (number : ℕ) (c : PoolClaims) (made : List PoolEntry) → get_elem? stakes number ≡ some (Some c, made) → IsWithin c.facts × (c.facts.size ≡ opening.size)
 
--- What holds between any two turns: numbers and caps are kept, what is reserved is what the seats have reserved, and no more than is free, and the history tells how much is unreserved
+-- What holds between any two turns: numbers and caps are kept, what is reserved is what the seats have reserved, and no more than is free, and the history tells how much is unreserved and which sectors are free
 pub record PoolTruth (opening now : PoolView) (history : List PoolEntry) (stakes : List PoolStake) : Type 0 where
   pub numbers : KeepsNumbers opening now stakes
   pub caps : KeepsCaps opening stakes
   pub reserved : total (claimed (λ c. c.reserved)) stakes ≡ now.reserved
   pub enough : now.reserved ≤ length now.free
   pub told : unreserved now ≡ unreserved_since (unreserved opening) history
+  pub stock : LeavesFree opening.free history now.free
   pub same : now ≡ with_stock opening now.free now.reserved
+
+-- two pools that began with the same sectors and have the same history have the same sectors free, in some order
+abbrev pub HistoryTellsTheFree : Type 0
+HistoryTellsTheFree =
+    (opening now later : PoolView) (history : List PoolEntry) (stakes others : List PoolStake) → PoolTruth opening now history stakes → PoolTruth opening later history others
+    → SameSectors now.free later.free

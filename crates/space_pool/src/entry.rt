@@ -24,9 +24,10 @@ pub enum PoolEntry {
         n: u64,
         taken: LinkedList<Sector>,
     },
-    /// n sectors came back.
+    /// n sectors came back: these.
     Give {
         n: u64,
+        given: LinkedList<Sector>,
     },
     /// The sectors were counted.
     Count {

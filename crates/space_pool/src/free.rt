@@ -1,12 +1,12 @@
 //! The free sectors of a pool, the lowest number first.
-ghost use Rattle.std.specs.Prelude.{◌≡◌, ℕ, ◌+◌, ◌≤◌, List, [], length, vec_len, vec_capacity, IfOk, IfErr};
+ghost use Rattle.std.specs.Prelude.{◌≡◌, ℕ, ◌+◌, ◌≤◌, List, [], length, vec_len, vec_capacity, IfOk, IfErr, OnOk, OnErr};
 ghost use Rattle.std.specs.BinaryHeap.{heap_items, heap_len, heap_capacity, KeepsHeap, IsHeap};
 ghost use Rattle.iob_base.specs.DeviceBlock.{DeviceBlock};
 ghost use Rattle.space_pool.specs.Sectors.{lowest_first, SameSectors, MovesInto, TakesLowest};
 
 use crate::lowest::Lowest;
 use iob_base::Sector;
-use std::alloc::Global;
+use std::alloc::{AllocError, Global};
 use std::collections::BinaryHeap;
 use std::marker::Model;
 
@@ -26,6 +26,33 @@ fn push_all(heap: &mut BinaryHeap<Lowest>, sectors: &mut Vec<Sector>)
             Err(_) => unreachable!(),
         }
     }
+}
+
+// Moves all sectors to the list, which has room for them, in some order.
+fn name_all(sectors: &mut Vec<Sector>, into: &mut Vec<Lowest>)
+    requires { vec_len into.old + vec_len sectors.old ≤ vec_capacity into.old }
+    ensures moved { MovesInto into.old.items sectors.old.items into.new.items }
+    ensures len { vec_len into.new ≡ vec_len into.old + vec_len sectors.old }
+    ensures emptied { sectors.new.items ≡ [] }
+    ensures kept { vec_capacity sectors.new ≡ vec_capacity sectors.old }
+{
+    while let Some(sector) = sectors.pop() {
+        into.push_reserved(Lowest(sector));
+    }
+}
+
+// A heap of all sectors, made at once and not by one push a sector. Where there is no memory they stay.
+fn heap_of(alloc: Global, sectors: &mut Vec<Sector>) -> Result<BinaryHeap<Lowest>, AllocError>
+    ensures same { IfOk result (λ h. SameSectors sectors.old.items (heap_items h)) }
+    ensures len { IfOk result (λ h. heap_len h ≡ vec_len sectors.old) }
+    ensures heap_order { IfOk result (λ h. IsHeap lowest_first (heap_items h)) }
+    ensures emptied { OnOk result (sectors.new.items ≡ []) }
+    ensures kept { vec_capacity sectors.new ≡ vec_capacity sectors.old }
+    ensures err { OnErr result (sectors.new ≡ sectors.old) }
+{
+    let mut named = Vec::with_capacity(alloc, sectors.len())?;
+    name_all(sectors, &mut named);
+    Ok(BinaryHeap::from(named))
 }
 
 // Moves the sectors with the lowest numbers out of the heap, in order, to where there is room for them.
@@ -68,7 +95,7 @@ impl Model for FreeList {
 }
 
 impl FreeList {
-    // Takes in the sectors, with room for so many more. Where there is no memory they come back.
+    // Takes in the sectors, in linear time, with room for so many more. Where there is no memory they come back.
     pub(crate) fn new(
         alloc: Global,
         mut sectors: Vec<Sector>,
@@ -85,7 +112,13 @@ impl FreeList {
         let Ok(mut heap) = BinaryHeap::with_capacity(alloc, room) else {
             return Err(sectors);
         };
-        push_all(&mut heap, &mut sectors);
+        let Ok(mut all) = heap_of(alloc, &mut sectors) else {
+            return Err(sectors);
+        };
+        match heap.append(&mut all) {
+            Ok(()) => {}
+            Err(_) => unreachable!(),
+        }
         Ok(FreeList {
             heap,
             spare: sectors,

@@ -208,7 +208,8 @@ impl PoolState {
 
     /// The free sectors, in the order of their numbers. It takes no memory.
     pub fn into_free(self) -> Vec<Sector>
-        ensures { TakesLowest (length self.free) self.free [] [] result.items }
+        ensures all { TakesLowest (length self.free) self.free [] [] result.items }
+        ensures sized { All (HasSize self.size) result.items }
     {
         let PoolState {
             free,

@@ -11,5 +11,5 @@ returns c s =
     record {
       entry = entry;
       done = (c.counts.ensures, refl, refl, record { entry_is = refl; found = s.stands.holds.told });
-      holds = keeps-turn s.stands c.args.value.now c.args._claims.now entry (stays c.args.value.now c.args._claims.now.facts entry s.stands.holds.enough (stands-within s.stands) refl);
+      holds = keeps-turn s.stands c.args.value.now c.args._claims.now entry (stays c.args.value.now c.args._claims.now.facts entry s.stands.holds.enough (stands-within s.stands) refl (λ f. refl));
     }

@@ -11,7 +11,7 @@ give-requires-clause-claim c = stands-claim c.requires.stands
 pub returns : goal.returns
 returns c s =
     let given = c.args.self.now.sectors.now.items in
-    let entry : PoolEntry = Give (length given) in
+    let entry : PoolEntry = Give (length given) given in
     record {
       entry = entry;
       done = ((c.give.ensures.given, record { entry_is = refl; found = s.stands.holds.told }), c.give.ensures.emptied, c.give.ensures.kept, refl);
