@@ -1,5 +1,5 @@
 //! A vector that contracts see as the list of its elements.
-ghost use Rattle.std.specs.Prelude.{◌≡◌, [], ◌∷◌, ◌++◌, ◌<◌, length, slice_get, IfOk, OnOk, OnErr};
+ghost use Rattle.std.specs.Prelude.{◌≡◌, [], ◌∷◌, ◌++◌, ◌<◌, length, replicate, slice_get, IfOk, OnOk, OnErr};
 ghost use Rattle.std.specs.Option.{option_copied};
 
 use std::alloc::{AllocError, Global};
@@ -94,5 +94,14 @@ impl<T: Copy> Items<T> {
         ensures { self.new ≡ from.now }
     {
         self.items.as_mut_slice().copy_from_slice(from);
+    }
+}
+
+impl Items<u8> {
+    /// Makes each byte 0.
+    pub fn zero(&mut self)
+        ensures { self.new ≡ replicate (length self.old) 0 }
+    {
+        self.items.as_mut_slice().fill(0);
     }
 }

@@ -1,6 +1,6 @@
 //! Blocks that are on their way between the device and memory.
 ghost use Rattle.std.specs.Prelude.{◌≡◌, ◌++◌, ◌∷◌, [], ◌<◌, ◌≤◌, length, IfOk};
-ghost use Rattle.iob_base.specs.Parting.{bare_part, without_page, without_sector};
+ghost use Rattle.iob_base.specs.Parting.{bare_part, pages_of, without_page, without_sector};
 
 use crate::sector::{Page, Sector};
 use arrayvec::ArrayVec;
@@ -78,10 +78,11 @@ impl Parts {
         Ok(Parts { parts })
     }
 
-    /// How many parts there are.
+    /// How many parts there are, which is how many pages.
     #[inline]
     pub fn len(&self) -> usize
         ensures count { result ≡ length self.now }
+        ensures pages { result ≡ length (pages_of self.now) }
         ensures few { result ≤ 16 }
     {
         self.parts.len()

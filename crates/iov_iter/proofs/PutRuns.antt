@@ -1,16 +1,7 @@
-use Rattle.std.proofs.Common.{◌≡◌, ℕ, zero, suc, ◌+◌, ◌<◌, List, [], ◌∷◌, ◌++◌, length, map, get_or, set, take, drop, arith, refl, sym, ap, ◌∙◌, subst, length-take}
-use Rattle.std.proofs.lemmas.List.{drop_more, get_or_at, length-map}
+use Rattle.std.proofs.Common.{◌≡◌, ℕ, zero, suc, List, [], ◌∷◌, ◌++◌, get_or, set, take, drop, sym, ap, subst}
 use Rattle.iob_base.specs.declared.sector.Page.{Page}
 use Rattle.iov_iter.specs.Runs.{FitIn, slot_put, slots_put}
 use Rattle.iov_iter.specs.Slots.{SlotView}
-
--- an item that was not reached yet is as it was
-pub read_rest : {X : Type 0} (f : X → X) (xs ys : List X) (i : ℕ) (x : X) → i < length xs → ys ≡ map f (take i xs) ++ drop i xs → x ≡ get_or ys i x → x ≡ get_or xs i x
-read_rest f xs ys i x lt h is =
-    let front = map f (take i xs) in
-    let long : length front ≡ i = length-map (take i xs) f ∙ omega (arith, length-take i xs) in
-    let parts : ys ≡ front ++ get_or xs i x ∷ drop (i + 1) xs = h ∙ ap (λ l. front ++ l) (drop_more xs i x lt) in
-    is ∙ ap (λ l. get_or l i x) parts ∙ get_or_at front _ _ x i long
 
 fit_next : (at : ℕ) (slots : List SlotView) (s' : SlotView) (g : Page) (gs : List Page) → FitIn (drop at slots) (g ∷ gs) → FitIn (drop (suc at) (set slots at s')) gs
 fit_next zero [] s' g gs f = absurd f

@@ -4,9 +4,10 @@ use Rattle.std.proofs.lemmas.List.Edits.{map_over_more}
 use Rattle.iob_base.specs.Parting.{pages_of, without_page}
 use Rattle.iob_base.specs.declared.part.Part.{Part}
 use Rattle.iob_base.specs.declared.sector.Page.{Page}
+use Rattle.iob_base.proofs.PartLemmas.{read_rest}
 use Rattle.iov_iter.specs.Runs.{FitIn, slot_put, slots_put}
 use Rattle.iov_iter.specs.Slots.{SlotView}
-use Rattle.iov_iter.proofs.PutRuns.{fit_after, put_after, read_rest}
+use Rattle.iov_iter.proofs.PutRuns.{fit_after, put_after}
 use Rattle.iov_iter.proofs.pages.put_run.Goals as goal
 
 pub loop-part-preserved : goal.loop-part-preserved

@@ -1,6 +1,7 @@
 use Rattle.std.proofs.Common.{◌≡◌, ◌+◌, ◌*◌, ◌++◌, List, drop, arith, refl, sym, ap, ◌∙◌, subst, length-drop}
 use Rattle.std.proofs.lemmas.List.{drop-map}
 use Rattle.iob_base.specs.Parting.{bare_parts}
+use Rattle.iob_base.specs.declared.sector.Page.{Page}
 use Rattle.iov_iter.specs.IovView.{IovView, PagePlace}
 use Rattle.iov_iter.specs.Kept.{IsIov}
 use Rattle.iov_iter.specs.Moving.{AreWhole, CanTake, after_take, next_pages}
