@@ -25,12 +25,12 @@ impl Model for Geometry {
 
     ghost Value = { Layout };
 
-    ghost use Rattle.iob_base.specs.Geometry.{is_block_size, is_folio_blocks, is_grain, shift_of};
+    ghost use Rattle.iob_base.specs.Geometry.{is_block_size, is_folio_blocks, IsGrain, shift_of};
     ghost use Rattle.std.specs.Prelude.{IsTrue, ◌≡◌};
 
     ghost view = { λ g. record { block_size = g.block_size; folio_blocks = g.folio_blocks; grain = g.grain } };
 
-    ghost invariant = { λ g. IsTrue (is_block_size g.block_size) × IsTrue (is_folio_blocks g.folio_blocks) × IsTrue (is_grain g.block_size g.grain) × (g.shift ≡ shift_of g.block_size) };
+    ghost invariant = { λ g. IsTrue (is_block_size g.block_size) × IsTrue (is_folio_blocks g.folio_blocks) × IsGrain g.block_size g.grain × (g.shift ≡ shift_of g.block_size) };
 
     ghost inverse = { λ v. record { block_size = v.block_size; folio_blocks = v.folio_blocks; grain = v.grain; shift = shift_of v.block_size } };
 }
@@ -56,6 +56,7 @@ impl Geometry {
     ///
     /// `BlockSize` comes exactly where the block size is no power of two from 16 to 4096, and
     /// `FolioBlocks` exactly where only the number of blocks in a folio is none of 1, 2, 4, 8, 16, 32.
+    #[tactic(auto, unfolding(crate::specs::Geometry::IsGrain))]
     pub fn new(block_size: u32, folio_blocks: u32) -> Result<Geometry, BadGeometry>
         ensures { result ≡ checked_geometry block_size folio_blocks }
     {
@@ -77,6 +78,7 @@ impl Geometry {
     ///
     /// `BlockSize` and `FolioBlocks` come as from `new`, and `Grain` exactly where both sizes are good
     /// and the grain is no power of two from 16 to the block size.
+    #[tactic(auto, unfolding(crate::specs::Geometry::IsGrain))]
     pub fn with_grain(
         block_size: u32,
         folio_blocks: u32,
@@ -118,6 +120,7 @@ impl Geometry {
     }
 
     /// The number of bytes that offsets and segment lengths of direct calls are multiples of.
+    #[tactic(auto, unfolding(crate::specs::Geometry::IsGrain))]
     pub fn grain(&self) -> u32
         ensures value { result ≡ self.now.grain }
         ensures valid { IsTrue (is_grain self.now.block_size result) }
@@ -146,6 +149,7 @@ fn has_folio_blocks(n: u32) -> bool
 }
 
 /// The power that a block size is of two.
+#[tactic(auto, unfolding(crate::specs::Geometry::shift_of))]
 fn shift(size: u32) -> u32
     requires { IsTrue (is_block_size size) }
     ensures { result ≡ shift_of size }

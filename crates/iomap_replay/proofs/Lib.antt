@@ -5,6 +5,7 @@ pub mod JobOf
 pub mod Joined
 pub mod OneContents
 pub mod OneFile
+pub mod OneParted
 pub mod OnePool
 pub mod OneRange
 pub mod OneRead

@@ -1,5 +1,5 @@
 -- The contents of a file that was only read, and the bytes that the read gave.
-use Rattle.std.proofs.Common.{◌≡◌, ℕ, ◌+◌, ◌-◌, ◌*◌, ◌≤◌, Bool, true, false, not, ◌||◌, List, [], ◌∷◌, Some, None, Option, is_some, if◌then◌else◌, length, take, drop, replicate, refl, sym, ap, ◌∙◌, arith, eq-eqb}
+use Rattle.std.proofs.Common.{◌≡◌, ℕ, ◌+◌, ◌-◌, ◌*◌, ◌≤◌, Bool, true, false, not, ◌||◌, List, [], ◌∷◌, Some, None, Option, if◌then◌else◌, length, take, drop, replicate, refl, sym, ap, ◌∙◌, arith, eq-eqb}
 use Rattle.std.specs.Prelude.{max, min}
 use Rattle.std.specs.List.{list_all}
 use Rattle.std.specs.Str.{bytes_eq}
@@ -10,8 +10,8 @@ use Rattle.io_model.specs.Answered.{answered_span, is_answered}
 use Rattle.io_model.specs.Contents.{Content, device_bytes, mapped_or_zeros, opening_content}
 use Rattle.io_model.specs.Finals.{device_content}
 use Rattle.io_model.specs.Kinds.{covers, kind_after, kind_at, mapped_number, device_number}
-use Rattle.io_model.specs.Lists.{bytes_between, same}
-use Rattle.io_model.specs.Fitting.{has_size}
+use Rattle.io_model.specs.Lists.{bytes_between}
+use Rattle.io_model.specs.Fitting.{has_size, is_own_sector}
 use Rattle.io_model.specs.Parts.{Span, span, part_in}
 use Rattle.io_model.specs.Reads.{gives_block, stamps_before}
 use Rattle.io_model.specs.Effects.{replayed}
@@ -21,12 +21,11 @@ use Rattle.io_model.specs.declared.file.Kind.TheVariants.{Hole, Mapped}
 use Rattle.io_model.specs.declared.run.CallEnd.{CallEnd}
 use Rattle.io_model.specs.declared.script.Script.{Script}
 use Rattle.iomap_replay.proofs.Devices.{length-given_or}
-use Rattle.iomap_replay.proofs.OneRead.{IsAt, answered-whole, is_answered-here}
+use Rattle.iomap_replay.proofs.OneRead.{IsAt, one_ranged, answered-whole, is_answered-here}
 use Rattle.iomap_replay.proofs.Joined.{between-taken, piece-joined}
 use Rattle.iomap_replay.proofs.Spans.{LiesAcross, among, met}
 use Rattle.iomap_replay.specs.Facts.{IsShape, is_whole}
 use Rattle.iomap_replay.specs.Jobs.{script_of_job}
-use Rattle.iomap_replay.specs.Jobs.{one_call}
 use Rattle.iomap_replay.specs.OneRead.{joined_from}
 use Rattle.iomap_replay.specs.Runs.{is_among, read_stamp, sector_with}
 use Rattle.iomap_replay.specs.declared.job.Job.{Job}
@@ -49,14 +48,14 @@ kind_number e d b kind = by_test (covers e b)
     by_test true = ap (λ k. device_number (kind_after k (b - e.block))) kind ∙ sym (ap (λ k. mapped_number (kind_after k (b - e.block))) kind)
     by_test false = refl
 
--- the block has a sector exactly where it has a device number
+-- the block has the sector of its device number, where it has one
 pub sector_fits : (content : ℕ → Content) (e : Extent) (d b : ℕ) → e.kind ≡ Mapped d
-    → same (is_some (sector_with content (mapped_number (kind_at (e ∷ []) b)))) (is_some (device_number (kind_at (e ∷ []) b))) ≡ true
+    → is_own_sector (sector_with content (mapped_number (kind_at (e ∷ []) b))) (device_number (kind_at (e ∷ []) b)) ≡ true
 sector_fits content e d b kind = rw (kind_number e d b kind) (alike (mapped_number (kind_at (e ∷ []) b)))
   where
-    alike : (m : Option ℕ) → same (is_some (sector_with content m)) (is_some m) ≡ true
+    alike : (m : Option ℕ) → is_own_sector (sector_with content m) m ≡ true
     alike None = refl
-    alike (Some n) = refl
+    alike (Some n) = eq-eqb n n refl
 
 -- the sector is a whole block
 pub sector_whole : (content : ℕ → Content) (size : ℕ) (m : Option ℕ) → ((d : ℕ) → length (content d) ≡ size) → has_size size (sector_with content m) ≡ true
@@ -108,7 +107,7 @@ pub gives-here : (name : List ℕ) (job : Job) (given : List (ℕ × List ℕ)) 
     → IsShape job.device job.geometry job.blocks job.extent job.asked → list_all (is_whole job.device) given ≡ true → IsAt job b k → is_among b k c ≡ true
     → end.answer.reply ≡ Ok job.asked.length Whole → block.journal ≡ read_stamp ∷ []
     → end.got ≡ take job.asked.length (drop (job.asked.off - b * job.geometry.block_size) (joined_from (opening_content (script_of_job name job given) 0) b k))
-    → gives_block (script_of_job name job given) 1 (one_call job.asked) end c block ≡ true
+    → gives_block (script_of_job name job given) (one_ranged job ∷ []) 1 (one_ranged job) end c block ≡ true
 gives-here name job given b k c end block shape whole at here reply journal got =
     let script = script_of_job name job given in
     let size = job.geometry.block_size in
@@ -116,27 +115,27 @@ gives-here name job given b k c end block shape whole at here reply journal got 
     let n = job.asked.length in
     let opening = opening_content script 0 c in
     let cut : Span → Bool = λ part. bytes_eq (bytes_between (part.from - off) (part.to - off) end.got) (bytes_between (part.from - c * size) (part.to - c * size) opening) in
-    let part : part_in size (answered_span script (one_call job.asked) end.answer.reply) c ≡ part_in size (span off (off + n)) c =
-    ap (λ r. part_in size (answered_span script (one_call job.asked) r) c) reply
-    ∙ ap (λ s. part_in size s c) (answered-whole name job given b k at) in
+    let part : part_in size (answered_span size (one_ranged job) end.answer.reply) c ≡ part_in size (span off (off + n)) c =
+    ap (λ r. part_in size (answered_span size (one_ranged job) r) c) reply
+    ∙ ap (λ s. part_in size s c) (answered-whole job b k at) in
     let equal : cut (part_in size (span off (off + n)) c) ≡ true =
     ap (λ bytes. bytes_eq bytes (bytes_between (max off (c * size) - c * size) (min (off + n) ((c + 1) * size) - c * size) opening))
     (between-equal (opening_content script 0) size b k off n c end.got (length-opening name job given shape whole) at.lies here got)
     ∙ bytes_eq-refl (bytes_between (max off (c * size) - c * size) (min (off + n) ((c + 1) * size) - c * size) opening) in
-    let answered : is_answered script (one_call job.asked) end.answer.reply c ≡ true =
-    ap (λ r. is_answered script (one_call job.asked) r c) reply ∙ is_answered-here name job given b k c at here in
-    ap (λ stamps. not (is_answered script (one_call job.asked) end.answer.reply c)
-    || bytes_eq (bytes_between ((part_in size (answered_span script (one_call job.asked) end.answer.reply) c).from - off)
-    ((part_in size (answered_span script (one_call job.asked) end.answer.reply) c).to - off) end.got)
-    (bytes_between ((part_in size (answered_span script (one_call job.asked) end.answer.reply) c).from - c * size)
-    ((part_in size (answered_span script (one_call job.asked) end.answer.reply) c).to - c * size) (replayed script 0 c (stamps_before 1 stamps)))) journal
-    ∙ ap (λ (t : Bool). not t || cut (part_in size (answered_span script (one_call job.asked) end.answer.reply) c)) answered
+    let answered : is_answered size (one_ranged job) end.answer.reply c ≡ true =
+    ap (λ r. is_answered size (one_ranged job) r c) reply ∙ is_answered-here job b k c at here in
+    ap (λ stamps. not (is_answered size (one_ranged job) end.answer.reply c)
+    || bytes_eq (bytes_between ((part_in size (answered_span size (one_ranged job) end.answer.reply) c).from - off)
+    ((part_in size (answered_span size (one_ranged job) end.answer.reply) c).to - off) end.got)
+    (bytes_between ((part_in size (answered_span size (one_ranged job) end.answer.reply) c).from - c * size)
+    ((part_in size (answered_span size (one_ranged job) end.answer.reply) c).to - c * size) (replayed script (one_ranged job ∷ []) 0 c (stamps_before 1 stamps)))) journal
+    ∙ ap (λ (t : Bool). not t || cut (part_in size (answered_span size (one_ranged job) end.answer.reply) c)) answered
     ∙ ap cut part ∙ equal
 
 -- a block that was not answered is not asked after
 pub gives-elsewhere : (name : List ℕ) (job : Job) (given : List (ℕ × List ℕ)) (c : ℕ) (end : CallEnd) (block : BlockEnd)
-    → is_answered (script_of_job name job given) (one_call job.asked) end.answer.reply c ≡ false
-    → gives_block (script_of_job name job given) 1 (one_call job.asked) end c block ≡ true
+    → is_answered job.geometry.block_size (one_ranged job) end.answer.reply c ≡ false
+    → gives_block (script_of_job name job given) (one_ranged job ∷ []) 1 (one_ranged job) end c block ≡ true
 gives-elsewhere name job given c end block none = not_asked _ _ none
   where
     not_asked : (t u : Bool) → t ≡ false → (not t || u) ≡ true

@@ -10,6 +10,7 @@ use Rattle.io_model.specs.Kinds.{covers, kind_after, kind_at, mapped_number, dev
 use Rattle.io_model.specs.declared.file.Extent.{Extent}
 use Rattle.io_model.specs.declared.file.Kind.{Kind}
 use Rattle.io_model.specs.declared.file.Kind.TheVariants.{Hole, Mapped}
+use Rattle.io_model.specs.Partition.{onto_sectors}
 use Rattle.iomap_replay.specs.Devices.{blocks_with}
 use Rattle.iomap_replay.specs.Runs.{is_among, tabulated, read_end, sector_with}
 use Rattle.iomap_replay.proofs.Spans.{among, apart, is_among-in, is_among-out}
@@ -26,13 +27,14 @@ rest_at content d low high b = blocks_with content (d + (b - low)) (high - max b
 pub record Steps (content : ℕ → Content) (kind : Kind) (sectors next : List DeviceBlock) : Type 0 where
   pub cell : (cell_of kind sectors).sector ≡ sector_with content (mapped_number kind)
   pub rest : sectors_after kind sectors ≡ next
+  pub own : sectors ≡ onto_sectors (sector_with content (mapped_number kind)) next
   pub numbers : map (λ (s : DeviceBlock). s.number) sectors ≡ cons_option (device_number kind) (map (λ (s : DeviceBlock). s.number) next)
 
 steps-mapped : (content : ℕ → Content) (n m : ℕ) → Steps content (Mapped n) (blocks_with content n (suc m)) (blocks_with content (n + 1) m)
-steps-mapped content n m = record { cell = refl; rest = refl; numbers = refl }
+steps-mapped content n m = record { cell = refl; rest = refl; own = refl; numbers = refl }
 
 steps-hole : (content : ℕ → Content) (sectors : List DeviceBlock) → Steps content Hole sectors sectors
-steps-hole content sectors = record { cell = refl; rest = refl; numbers = refl }
+steps-hole content sectors = record { cell = refl; rest = refl; own = refl; numbers = refl }
 
 pub inside : (content : ℕ → Content) (e : Extent) (d b : ℕ) → e.kind ≡ Mapped d → e.block ≤ b → b < e.block + e.length
     → Steps content (kind_at (e ∷ []) b) (rest_at content d e.block (e.block + e.length) b) (rest_at content d e.block (e.block + e.length) (b + 1))

@@ -19,7 +19,7 @@ use Rattle.iomap_replay.proofs.OneFile.{ends-are, stamps_at-run, stamps_at-none}
 use Rattle.iomap_replay.proofs.OneRange.{first_is}
 use Rattle.iomap_replay.proofs.OneRead.{is_at}
 use Rattle.iomap_replay.proofs.RightRun.{IsReadFile, right_run, whole_read, failed_read}
-use Rattle.iomap_replay.specs.Devices.{blocks_with, first_number}
+use Rattle.iomap_replay.specs.Devices.{SameNumbers, blocks_beside, blocks_with, first_number}
 use Rattle.iomap_replay.specs.Jobs.{IsJobOf, script_of_job}
 use Rattle.iomap_replay.specs.OneRead.{block_of, count_of, opened_range, IsOpened, GaveRange, GaveNothing, IsOutcome}
 use Rattle.iomap_replay.specs.Runs.{is_among, read_stamp, one_run}
@@ -33,11 +33,17 @@ use Rattle.range_core.specs.RangeView.{RangeView}
 use Rattle.range_core.specs.Stamps.{bare_end, journaled, stamps_at, stamps_from}
 use Rattle.range_core.specs.declared.cell.Cell.{Cell}
 
+-- the blocks that stay free are those of the device beside the extent
+abbrev pub LeavesFree : Script → Job → List DeviceBlock → Type 0
+LeavesFree script job free = SameNumbers free (blocks_beside (device_bytes script) (first_number job.extent.kind) job.extent.length job.device.blocks)
+
 -- a file's end is what a range leaves
 pub record IsEndOf (file : FileEnd) (r : RangeView) : Type 0 where
   pub merged : IsTrue (is_merged_from r.first (r.first + length r.cells) file.extents)
   pub kinds : kinds_from file.extents r.first (length r.cells) ≡ map (λ (c : Cell). c.kind) r.cells
   pub blocks : file.blocks ≡ journaled r.first r.log (map bare_end r.cells)
+  pub size : file.size ≡ None
+  pub sizes : file.sizes ≡ []
 
 -- equal lists of kinds have equal kinds at each block
 kind_of_each : (xs ys : List Extent) (b n k : ℕ) → kinds_from xs b n ≡ kinds_from ys b n → k < n → kind_at xs (b + k) ≡ kind_at ys (b + k)
@@ -72,14 +78,23 @@ read_file script job r d read stamps log file kind logged end =
       kinds = λ i within.
           let P : ℕ → Type 0 = λ c. kind_at file.extents c ≡ kind_at (e ∷ []) c in
           let place : 0 + i ≡ i = omega arith in subst P place (kind_of_each file.extents (e ∷ []) 0 job.blocks i all within);
+      size = end.size;
+      sizes = end.sizes;
     }
 
 -- a run whose script is spelled out
 right_spelled : (script : Script) (job : Job) (end : CallEnd) (file : FileEnd) (free : List DeviceBlock) (lanes : List LaneEnd) (old new : RangeView) (of : IsJobOf script job)
     → IsOpened (script_of_job of.name job script.blocks) job old → IsOutcome (script_of_job of.name job script.blocks) job end old new
-    → IsEndOf file new → length lanes ≡ 17 → RunIsRight (script_of_job of.name job script.blocks) (0 ∷ []) (one_run end file free lanes)
-right_spelled script job end file free lanes old new of opened outcome file_end many = by_reply (is_error end.answer.reply) outcome
+    → IsEndOf file new → length lanes ≡ 17 → LeavesFree (script_of_job of.name job script.blocks) job free
+    → RunIsRight (script_of_job of.name job script.blocks) (0 ∷ []) (one_run end file free lanes)
+right_spelled script job end file free lanes old new of opened outcome file_end many same = by_reply (is_error end.answer.reply) outcome
   where
+    left_free : (d : ℕ) → job.extent.kind ≡ Mapped d
+        → SameNumbers free (blocks_beside (device_bytes (script_of_job of.name job script.blocks)) d job.extent.length job.device.blocks)
+    left_free d kind =
+        let S : ℕ → Type 0 = λ n. SameNumbers free (blocks_beside (device_bytes (script_of_job of.name job script.blocks)) n job.extent.length job.device.blocks) in
+        subst S (first_is job.extent d kind) same
+
     by_reply : (t : Bool) → MatchBool t (GaveNothing end old new) (GaveRange (script_of_job of.name job script.blocks) job end old new)
         → RunIsRight (script_of_job of.name job script.blocks) (0 ∷ []) (one_run end file free lanes)
     by_reply true nothing =
@@ -88,7 +103,8 @@ right_spelled script job end file free lanes old new of opened outcome file_end 
         let none : ℕ → Bool = λ _. false in
         let read = read_file s job old on.mapped.0 none [] [] file on.mapped.1 (stamps_at-none none) (subst (IsEndOf file) opened (subst (IsEndOf file) nothing.left file_end)) in
         right_run of.name job script.blocks on.mapped.0 none [] file end free lanes of.shape of.whole on.mapped.1 read
-        (failed_read of.name job script.blocks none file end nothing.fault read nothing.reply nothing.waited nothing.pages nothing.got) many
+        (failed_read of.name job script.blocks (block_of job) (count_of job) none file end nothing.fault (is_at job of.shape) read nothing.reply nothing.waited nothing.told nothing.bios nothing.pages nothing.got) many
+        (left_free on.mapped.0 on.mapped.1)
     by_reply false whole =
         let on = of.shape.tail.extent in
         let s = script_of_job of.name job script.blocks in
@@ -97,15 +113,18 @@ right_spelled script job end file free lanes old new of opened outcome file_end 
         let E : RangeView → Type 0 = λ r. IsEndOf file (with_stamps r (stamps_from b k read_stamp)) in
         let read = read_file s job old on.mapped.0 (is_among b k) (read_stamp ∷ []) (stamps_from b k read_stamp) file on.mapped.1 (stamps_at-run read_stamp b k) (subst E opened (subst (IsEndOf file) whole.left file_end)) in
         right_run of.name job script.blocks on.mapped.0 (is_among b k) (read_stamp ∷ []) file end free lanes of.shape of.whole on.mapped.1 read
-        (whole_read of.name job script.blocks b k file end of.shape of.whole (is_at job of.shape) read whole.reply whole.pages whole.many whole.got) many
+        (whole_read of.name job script.blocks b k file end of.shape of.whole (is_at job of.shape) read whole.reply whole.bios whole.pages whole.many whole.got) many
+        (left_free on.mapped.0 on.mapped.1)
 
 pub right_from_outcome : (script : Script) (job : Job) (end : CallEnd) (file : FileEnd) (free : List DeviceBlock) (lanes : List LaneEnd) (old new : RangeView) (of : IsJobOf script job)
-    → IsOpened script job old → IsOutcome script job end old new → IsEndOf file new → length lanes ≡ 17 → RunIsRight script (0 ∷ []) (one_run end file free lanes)
-right_from_outcome script job end file free lanes old new of opened outcome file_end many =
+    → IsOpened script job old → IsOutcome script job end old new → IsEndOf file new → length lanes ≡ 17 → LeavesFree script job free
+    → RunIsRight script (0 ∷ []) (one_run end file free lanes)
+right_from_outcome script job end file free lanes old new of opened outcome file_end many same =
+    let F : Script → Type 0 = λ s. LeavesFree s job free in
     let I : Script → Type 0 = λ s. IsOpened s job old in
     let O : Script → Type 0 = λ s. IsOutcome s job end old new in
     let R : Script → Type 0 = λ s. RunIsRight s (0 ∷ []) (one_run end file free lanes) in
-    subst R (sym of.is) (right_spelled script job end file free lanes old new of (subst I of.is opened) (subst O of.is outcome) file_end many)
+    subst R (sym of.is) (right_spelled script job end file free lanes old new of (subst I of.is opened) (subst O of.is outcome) file_end many (subst F of.is same))
 
 -- the read leaves the blocks and the seat at the pool as they were
 pub record KeepsRest (old new : RangeView) : Type 0 where

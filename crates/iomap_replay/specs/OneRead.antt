@@ -1,8 +1,8 @@
-use Rattle.std.specs.Prelude.{◌≡◌, ℕ, zero, suc, ◌+◌, ◌-◌, ◌*◌, false, List, [], ◌∷◌, ◌++◌, length, map, take, drop, replicate}
+use Rattle.std.specs.Prelude.{◌≡◌, ℕ, zero, suc, ◌+◌, ◌-◌, ◌*◌, Bool, true, false, List, [], ◌∷◌, ◌++◌, length, map, take, drop, replicate}
 use Rattle.std.specs.Bool.{MatchBool}
 use Rattle.std.specs.List.{concat}
 use Rattle.iob_base.specs.declared.answer.Fault.{Fault}
-use Rattle.iob_base.specs.declared.answer.Fault.TheVariants.{Eio}
+use Rattle.iob_base.specs.declared.answer.Fault.TheVariants.{Eio, NoMemory}
 use Rattle.iob_base.specs.declared.answer.Reply.TheVariants.{Ok, Err}
 use Rattle.iob_base.specs.declared.answer.Stop.TheVariants.{Whole}
 use Rattle.iob_base.specs.declared.sector.Page.{Page}
@@ -57,6 +57,12 @@ abbrev pub bios_of : Fault → ℕ
 bios_of (Eio _ _ _) = 1
 bios_of _ = 0
 
+-- a read that takes the device's bytes at once fails by a transfer, or for want of memory
+abbrev pub is_read_fault : Fault → Bool
+is_read_fault (Eio _ _ _) = true
+is_read_fault NoMemory = true
+is_read_fault _ = false
+
 -- the read gave its whole range by one transfer, and left one stamp on each block that it met
 pub record GaveRange (script : Script) (job : Job) (end : CallEnd) (old new : RangeView) : Type 0 where
   pub reply : end.answer.reply ≡ Ok job.asked.length Whole
@@ -71,6 +77,7 @@ pub record GaveNothing (end : CallEnd) (old new : RangeView) : Type 0 where
   pub fault : Fault
   pub reply : end.answer.reply ≡ Err fault 0
   pub waited : is_again fault ≡ false
+  pub told : is_read_fault fault ≡ true
   pub bios : end.answer.bios ≡ bios_of fault
   pub got : end.got ≡ []
   pub pages : end.pages ≡ []

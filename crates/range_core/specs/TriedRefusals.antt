@@ -24,7 +24,7 @@ abbrev space : SpaceClaims
 space = record { numbers = []; reserved = 0; cap = 3; size = 4 }
 
 abbrev range : ℕ → List Cell → RangeView
-range cookie cells = record { geometry = record { block_size = 4; folio_blocks = 4 }; mode = Cached; first = 0; cells = cells; log = []; cookie = cookie; errors = 0; tickets = 6; seat = seat; space = space }
+range cookie cells = record { geometry = record { block_size = 4; folio_blocks = 4; grain = 4 }; mode = Cached; first = 0; cells = cells; log = []; cookie = cookie; errors = 0; tickets = 6; seat = seat; space = space }
 
 abbrev page : Page
 page = record { number = 0; bytes = 1 ∷ 2 ∷ 3 ∷ 4 ∷ [] }

@@ -7,7 +7,7 @@ use Rattle.std.specs.List.{list_all}
 use Rattle.std.specs.Str.{bytes_eq}
 use Rattle.iob_base.specs.declared.stamp.Mark.{Mark}
 use Rattle.iob_base.specs.declared.stamp.Stamp.{Stamp}
-use Rattle.io_model.specs.Fitting.{is_file_end, is_block_end, is_merged_from}
+use Rattle.io_model.specs.Fitting.{is_file_end, is_block_end, is_merged_from, is_size_end}
 use Rattle.io_model.specs.Lists.{both_from, each_from, each_pair}
 use Rattle.io_model.specs.RunText.{files_lines}
 use Rattle.io_model.specs.declared.file.BlockEnd.{BlockEnd}
@@ -135,10 +135,11 @@ record SameFile (asked : Bool) (end other : FileEnd) : Type 0 where
 file_one : (asked : Bool) (name : List ℕ) (size : ℕ) (file : FileSpec) (end other : FileEnd) → IsTrue (is_file_end size file end) → IsTrue (is_file_end size file other)
     → file_values asked name end ≡ file_values asked name other → SameFile asked end other
 file_one asked name size file end other fits alike e =
-    let p = and_parts (length end.blocks == file.blocks) (is_merged_from 0 file.blocks end.extents && each_from (is_block_end size end.extents) 0 end.blocks) fits in
-    let q = and_parts (length other.blocks == file.blocks) (is_merged_from 0 file.blocks other.extents && each_from (is_block_end size other.extents) 0 other.blocks) alike in
-    let merged = (and_parts (is_merged_from 0 file.blocks end.extents) (each_from (is_block_end size end.extents) 0 end.blocks) p.1).0 in
-    let merged_other = (and_parts (is_merged_from 0 file.blocks other.extents) (each_from (is_block_end size other.extents) 0 other.blocks) q.1).0 in
+    let rest : FileEnd → Bool = λ e. each_from (is_block_end size e.extents) 0 e.blocks && is_size_end file.size e.size e.sizes in
+    let p = and_parts (length end.blocks == file.blocks) (is_merged_from 0 file.blocks end.extents && rest end) fits in
+    let q = and_parts (length other.blocks == file.blocks) (is_merged_from 0 file.blocks other.extents && rest other) alike in
+    let merged = (and_parts (is_merged_from 0 file.blocks end.extents) (rest end) p.1).0 in
+    let merged_other = (and_parts (is_merged_from 0 file.blocks other.extents) (rest other) q.1).0 in
     let count : length end.blocks ≡ length other.blocks = eqb-true (length end.blocks) file.blocks p.0 ∙ sym (eqb-true (length other.blocks) file.blocks q.0) in
     let parts = same_parts asked name end other e in
     record {

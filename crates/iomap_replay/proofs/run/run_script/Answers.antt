@@ -1,4 +1,4 @@
-use Rattle.std.proofs.Common.{◌≡◌, suc, None, List, [], ◌∷◌, ◌++◌, length, sym, ◌∙◌, ap, subst}
+use Rattle.std.proofs.Common.{◌≡◌, suc, None, List, [], ◌∷◌, ◌++◌, length, refl, sym, ◌∙◌, ap, subst}
 use Rattle.iob_base.specs.DeviceBlock.{DeviceBlock}
 use Rattle.io_model.specs.Contents.{device_bytes}
 use Rattle.io_model.specs.Right.{RunIsRight}
@@ -36,8 +36,18 @@ returns-clause-right g c =
     let file : FileEnd = record { extents = c.in_ok-ended.ended.extents; blocks = c.in_ok-ended.ended.blocks; size = None; sizes = c.new.result } in
     let many : length lanes ≡ 17 = ap length c.in_ok-insert.ensures.items ∙ ap suc c.requires.lanes in
     let left = c.in_ok-ended.ensures in
-    let ends : IsEndOf file new = record { merged = left.merged; kinds = left.kinds; blocks = left.blocks } in
-    let right = right_from_outcome script job end file free lanes old new c.requires.job c.in_ok-range.ensures.opened c.in_ok-end.ensures.outcome ends many in
+    let ends : IsEndOf file new = record { merged = left.merged; kinds = left.kinds; blocks = left.blocks; size = refl; sizes = c.new.ensures } in
+    let own : List DeviceBlock = c.in_ok-own.own.items in
+    let all : List DeviceBlock = blocks_beside (device_bytes script) (first_number job.extent.kind) job.extent.length job.device.blocks in
+    let keeps = outcome_keeps script job end old new c.in_ok-end.ensures.outcome in
+    let N : List DeviceBlock → Type 0 = λ ys. SameNumbers free ys in
+    let seat = c.in_ok-ended.ended.seat in
+    let claimed : (seat_claims seat).facts.numbers ≡ numbers_of own =
+    ap (λ (s : SpaceClaims). s.numbers) (c.in_ok-ended.ensures.space ∙ keeps.space ∙ c.in_ok-range.ensures.space ∙ c.in_ok-pool.ensures.claims) ∙ ap numbers_of c.deref.ensures.value in
+    let numbers : (pool_cell c.in_ok-pool.pool).opening.numbers ≡ numbers_of own ++ numbers_of c.in_ok-own.free.items =
+    c.in_ok-pool.ensures.numbers ∙ ap (λ o. numbers_of o ++ numbers_of c.in_ok-own.free.items) c.deref.ensures.value in
+    let same : SameNumbers free all = subst N c.in_ok-own.ensures.free (closed_free (pool_cell c.in_ok-pool.pool).opening (seat_view seat) (seat_claims seat) free own c.in_ok-own.free.items c.close-free.ensures claimed numbers) in
+    let right = right_from_outcome script job end file free lanes old new c.requires.job c.in_ok-range.ensures.opened c.in_ok-end.ensures.outcome ends many same in
     let P : Run → Type 0 = λ run. run ≡ one_run end file free lanes in
     let R : Run → Type 0 = RunIsRight script (0 ∷ []) in
     if_ok c.assemble_run.result P R (λ run is. subst R (sym is) right) c.assemble_run.ensures
