@@ -1,4 +1,4 @@
-use Rattle.std.proofs.Common.{◌≡◌, ◌+◌, ap, arith}
+use Rattle.std.proofs.Common.{◌≡◌, ap, arith}
 use Rattle.turn_cell.specs.Stakes.{total}
 use Rattle.space_pool.proofs.Weighing.{total-permutation}
 use Rattle.space_pool.proofs.free.heap_of.Goals as goal

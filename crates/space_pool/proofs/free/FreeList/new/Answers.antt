@@ -1,4 +1,4 @@
-use Rattle.std.proofs.Common.{◌≡◌, ◌+◌, ◌++◌, ap, arith}
+use Rattle.std.proofs.Common.{◌≡◌, ap, arith}
 use Rattle.std.specs.BinaryHeap.{heap_items}
 use Rattle.turn_cell.specs.Stakes.{total}
 use Rattle.turn_cell.proofs.Sums.{total-append}
