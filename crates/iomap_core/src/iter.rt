@@ -118,7 +118,6 @@ impl IomapIter {
         iomap: Iomap,
     )
         requires mapping { IsSameMapping self.old.unfinished iomap }
-        requires of { O.is_of ops.now pass.old }
         requires unended { O.is_open ops.now pass.old iomap }
         ensures state { self.new ≡ finished self.old }
         ensures ended { O.ends ops.now pass.old iomap self.old.done pass.new }

@@ -73,11 +73,13 @@ pub trait IomapOps {
 
     /// Closes a mapping of which so many bytes were done. What was reserved for the others is given back.
     fn end<R: Wait>(&self, rt: &R, pass: &mut Self::Pass, iomap: Iomap, written: u64)
-        requires of { is_of self.now pass.old }
         requires unended { is_open self.now pass.old iomap }
         requires within { written ≤ iomap.length }
         ensures of { is_of self.now pass.new }
         ensures ended { ends self.now pass.old iomap written pass.new };
+
+    // Only a pass of this file system began a mapping of it.
+    ghost open_is_of: { (ops : Self) (pass : Self.Pass) (m : Iomap) → is_open ops pass m → is_of ops pass };
 
     // A mapping that was found stale is still to be ended.
     ghost stale_is_open: { (ops : Self) (pass : Self.Pass) (m : Iomap) → is_open ops pass m → is_open ops pass (found_stale m) };

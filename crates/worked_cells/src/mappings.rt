@@ -82,6 +82,8 @@ impl IomapOps for OneBlock {
         }
     }
 
+    ghost open_is_of = { λ _ _ _ _. tt };
+
     ghost stale_is_open = { λ _ pass m same. stale-same pass.unended m same };
 }
 
