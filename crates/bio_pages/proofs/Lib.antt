@@ -1,0 +1,6 @@
+mod ShelfSums
+mod ShelfKeeps
+mod ShelfMoves
+mod ShelfCalls
+mod QueueKeeps
+mod Growing

@@ -3,7 +3,7 @@ ghost use Rattle.std.specs.Prelude.{◌≡◌, length};
 ghost use Rattle.fault_device.specs.LaneView.{lane_seen};
 ghost use Rattle.fault_device.specs.Opening.{Opening, IsServed, Serves};
 ghost use Rattle.fault_device.specs.Transfer.{CanTransfer, Tells};
-ghost use Rattle.bio_pages.specs.Running.{parts_after};
+ghost use Rattle.bio_pages.specs.Running.{IsRun, parts_after};
 
 use fault_device::{Done, Lane};
 use iob_base::{Op, Parts};
@@ -29,6 +29,7 @@ pub fn run_bio<T>(lane: &mut Lane, bio: &mut Bio<T>) -> Done
     requires { CanTransfer bio.old.parts }
     ensures bio { bio.new ≡ record bio.old { parts = bio.new.parts } }
     ensures parts { bio.new.parts ≡ parts_after bio.old.op result.landed bio.old.parts }
+    ensures run { IsRun bio.old bio.new result }
     ensures tells { Tells (length bio.old.parts) (lane_seen count tells lane.old) result (lane_seen count tells lane.new) }
     ensures serves { (o : Opening) → Serves o (lane_seen count tells lane.old) → IsServed o result (lane_seen count tells lane.new) }
 {
