@@ -115,6 +115,13 @@ impl Lane {
         }
     }
 
+    /// The lane's number.
+    pub fn number(&self) -> u32
+        ensures { result ≡ (lane_view count tells self.now).number }
+    {
+        self.number
+    }
+
     /// How many reads, writes and judgements the lane made.
     pub fn ops(&self) -> u64
         ensures { result ≡ (lane_view count tells self.now).ops }
