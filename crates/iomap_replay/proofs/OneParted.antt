@@ -129,20 +129,20 @@ parted script end file free lanes e d blocks read stamps kind inside within is s
     ap (λ bs. sectors_of bs free) is ∙ sectors-are content e d read stamps free kind 0 blocks (omega (arith, inside)) ∙ ap (λ own. own ++ free) (start_rest content e d) in
     record {
       once = below-all (λ x. nat_eq (times_held x (all_sectors (file ∷ []) free)) 1) all (λ x below.
-      let left : times_held x free ≡ times_held x front + times_held x back =
-      held-total x free ∙ same (is_at x) ∙ sym (held-total x (front ++ back)) ∙ held-append x front back in
-      let one : times_held x (all_sectors (file ∷ []) free) ≡ 1 =
-      ap (times_held x) sectors ∙ held-append x (blocks_with content d n) free ∙ ap (λ m. times_held x (blocks_with content d n) + m) left
-      ∙ once-held content x d n all within below in
-      eq-eqb _ _ one);
+          let left : times_held x free ≡ times_held x front + times_held x back =
+          held-total x free ∙ same (is_at x) ∙ sym (held-total x (front ++ back)) ∙ held-append x front back in
+          let one : times_held x (all_sectors (file ∷ []) free) ≡ 1 =
+          ap (times_held x) sectors ∙ held-append x (blocks_with content d n) free ∙ ap (λ m. times_held x (blocks_with content d n) + m) left
+          ∙ once-held content x d n all within below in
+          eq-eqb _ _ one);
       none_beside =
           (let left : count_of free ≡ count_of front + count_of back = count-total free ∙ same (λ _. 1) ∙ sym (count-total (front ++ back)) ∙ count-append front back in
           let many : count_of (all_sectors (file ∷ []) free) ≡ all =
           ap count_of sectors ∙ count-append (blocks_with content d n) free
           ∙ ap (λ m. count_of (blocks_with content d n) + m) left
           ∙ (let a = count-blocks content d n in
-            let b = count-blocks content 0 d in
-            let c = count-blocks content (d + n) (all - (d + n)) in
-            let t : count_of (blocks_with content d n) + (count_of front + count_of back) ≡ all = omega (arith, a, b, c, within) in t) in
+          let b = count-blocks content 0 d in
+          let c = count-blocks content (d + n) (all - (d + n)) in
+          let t : count_of (blocks_with content d n) + (count_of front + count_of back) ≡ all = omega (arith, a, b, c, within) in t) in
           eq-eqb _ _ many);
     }

@@ -1,4 +1,4 @@
-use Rattle.std.specs.Prelude.{◌≡◌, ◌⊎◌, ⊤, ℕ, ◌||◌, ◌==◌, IsTrue, List, Option, Result, Ok, Err}
+use Rattle.std.specs.Prelude.{◌≡◌, ◌⊎◌, ⊤, ℕ, Bool, true, false, ◌||◌, ◌==◌, IsTrue, List, Option, Result, Ok, Err}
 use Rattle.iob_base.specs.Counts.{Rose}
 use Rattle.iob_base.specs.Outside.{KeepsTold}
 use Rattle.iomap_replay.specs.Statuses.{WroteWhole, WrotePart}
@@ -16,6 +16,20 @@ number_of SourceFailed = 3
 number_of SinkFailed = 4
 number_of NoMemory = 5
 number_of BadWords = 64
+
+-- what there was to tell was written whole
+abbrev pub is_told : Ending → Bool
+is_told Whole = true
+is_told Errors = true
+is_told Refused = true
+is_told SourceFailed = false
+is_told SinkFailed = false
+is_told NoMemory = false
+is_told BadWords = false
+
+-- the same of an exit status
+abbrev pub is_told_by : ℕ → Bool
+is_told_by status = status == 0 || status == 1 || status == 2
 
 -- how a call ends whose text was written whole
 abbrev pub IsTold : Ending → Type 0

@@ -1,6 +1,6 @@
 //! The call that says whether a text is a script.
-ghost use Rattle.std.specs.Prelude.{◌≡◌, IfOk};
-ghost use Rattle.iomap_replay.specs.Endings.{Ends, HasEnded};
+ghost use Rattle.std.specs.Prelude.{◌≡◌, true, IfOk};
+ghost use Rattle.iomap_replay.specs.Endings.{Ends, HasEnded, is_told, is_told_by};
 ghost use Rattle.iomap_replay.specs.Refusals.{IsNoScript, IsCounted};
 ghost use Rattle.iomap_replay.specs.Statuses.{Checks};
 ghost use Rattle.io_script.specs.Checking.{IsChecked};
@@ -58,8 +58,9 @@ fn check_output(alloc: Global, text: &[u8]) -> Result<Output, AllocError>
 
 /// Reads a source and checks it.
 fn check_source<S: Source, K: Sink>(alloc: Global, source: &mut S, sink: &mut K) -> Ending
-    ensures { Ends Checks result (S.faults source.old) (S.faults source.new)
+    ensures ends { Ends Checks result (S.faults source.old) (S.faults source.new)
         (K.faults sink.old) (K.faults sink.new) (S.left source.old) (S.left source.new) (K.taken sink.old) (K.taken sink.new) }
+    ensures finished { is_told result ≡ true → K.finished sink.new ≡ true }
 {
     match read_all(alloc, source) {
         Err(ReadError::Failed) => Ending::SourceFailed,
@@ -73,14 +74,15 @@ fn check_source<S: Source, K: Sink>(alloc: Global, source: &mut S, sink: &mut K)
 ///
 /// | Status | When |
 /// |---|---|
-/// | 0 | the text is a script: `ok files <n> phases <n> calls <n>` and `end` were written whole |
-/// | 2 | it is none: the line that says where and why was written whole |
+/// | 0 | the text is a script: `ok files <n> phases <n> calls <n>` and `end` were written whole and finished |
+/// | 2 | it is none: the line that says where and why was written whole and finished |
 /// | 3 | the source failed; nothing was written |
 /// | 4 | the sink failed; the beginning of the text was written |
 /// | 5 | there was no memory; nothing was written |
 pub fn check_script<S: Source, K: Sink>(alloc: Global, source: &mut S, sink: &mut K) -> Status
-    ensures { HasEnded Checks result.0 (S.faults source.old) (S.faults source.new)
+    ensures ended { HasEnded Checks result.0 (S.faults source.old) (S.faults source.new)
         (K.faults sink.old) (K.faults sink.new) (S.left source.old) (S.left source.new) (K.taken sink.old) (K.taken sink.new) }
+    ensures finished { is_told_by result.0 ≡ true → K.finished sink.new ≡ true }
 {
     check_source(alloc, source, sink).status()
 }

@@ -23,11 +23,12 @@ pub enum Ending {
 }
 
 impl Ending {
-    ghost use Rattle.iomap_replay.specs.Endings.{number_of};
+    ghost use Rattle.iomap_replay.specs.Endings.{is_told, is_told_by, number_of};
 
     /// The exit status of a program for it.
     pub fn status(self) -> Status
-        ensures { result.0 ≡ number_of self }
+        ensures number { result.0 ≡ number_of self }
+        ensures told { is_told_by result.0 ≡ is_told self }
     {
         Status(match self {
             Ending::Whole => 0,

@@ -1,6 +1,6 @@
 //! What is written, and how a call ends that writes it.
-ghost use Rattle.std.specs.Prelude.{◌≡◌};
-ghost use Rattle.iomap_replay.specs.Endings.{IsWritten, IsAnswer};
+ghost use Rattle.std.specs.Prelude.{◌≡◌, true};
+ghost use Rattle.iomap_replay.specs.Endings.{IsWritten, IsAnswer, is_told};
 
 use crate::ending::{Ending, Output};
 use crate::streams::deliver;
@@ -9,7 +9,8 @@ use std::alloc::AllocError;
 
 /// Writes what is to be written.
 fn write_output<K: Sink>(sink: &mut K, output: Output) -> Ending
-    ensures { IsWritten output result (K.faults sink.old) (K.faults sink.new) (K.taken sink.old) (K.taken sink.new) }
+    ensures written { IsWritten output result (K.faults sink.old) (K.faults sink.new) (K.taken sink.old) (K.taken sink.new) }
+    ensures finished { is_told result ≡ true → K.finished sink.new ≡ true }
 {
     match deliver(sink, &output.written) {
         Ok(()) => output.ending,
@@ -19,7 +20,8 @@ fn write_output<K: Sink>(sink: &mut K, output: Output) -> Ending
 
 /// Writes what is to be written, unless there was no memory for it.
 pub fn answer<K: Sink>(sink: &mut K, output: Result<Output, AllocError>) -> Ending
-    ensures { IsAnswer output result (K.faults sink.old) (K.faults sink.new) (K.taken sink.old) (K.taken sink.new) }
+    ensures written { IsAnswer output result (K.faults sink.old) (K.faults sink.new) (K.taken sink.old) (K.taken sink.new) }
+    ensures finished { is_told result ≡ true → K.finished sink.new ≡ true }
 {
     match output {
         Err(_) => Ending::NoMemory,

@@ -1,5 +1,5 @@
 //! The whole of a source, and a whole text into a sink.
-ghost use Rattle.std.specs.Prelude.{◌≡◌, ◌≤◌, IfOk, IfErr, MatchResult};
+ghost use Rattle.std.specs.Prelude.{◌≡◌, ◌≤◌, true, IfOk, IfErr, OnOk, MatchResult};
 ghost use Rattle.iob_base.specs.Counts.{Rose};
 ghost use Rattle.iob_base.specs.Outside.{HasCause};
 ghost use Rattle.iomap_replay.specs.Streams.{ReadTold, TookWhole, TookPrefix};
@@ -46,6 +46,7 @@ pub fn read_all<S: Source>(alloc: Global, source: &mut S) -> Result<Vec<u8>, Rea
 pub fn deliver<K: Sink>(sink: &mut K, text: &[u8]) -> Result<(), Failed>
     ensures taken { MatchResult result (λ _. TookWhole (K.taken sink.old) text.now (K.taken sink.new))
         (λ _. TookPrefix (K.taken sink.old) text.now (K.taken sink.new)) }
+    ensures finished { OnOk result (K.finished sink.new ≡ true) }
     ensures cause { HasCause (K.faults sink.old) result (K.faults sink.new) }
 {
     let mut at = 0;

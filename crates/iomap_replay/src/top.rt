@@ -1,9 +1,9 @@
 //! The top call.
-ghost use Rattle.std.specs.Prelude.{◌≡◌, ◌↔◌, Some, None, length, map, string_bytes, IfOk};
+ghost use Rattle.std.specs.Prelude.{◌≡◌, ◌↔◌, true, Some, None, length, map, string_bytes, IfOk};
 ghost use Rattle.iob_base.specs.Outside.{KeepsTold};
 ghost use Rattle.fault_device.specs.Opening.{opening_of};
 ghost use Rattle.io_script.specs.Grammar.{IsScript};
-ghost use Rattle.iomap_replay.specs.Endings.{Ends, HasEnded};
+ghost use Rattle.iomap_replay.specs.Endings.{Ends, HasEnded, is_told, is_told_by};
 ghost use Rattle.iomap_replay.specs.Statuses.{Replays, Checks};
 ghost use Rattle.iomap_replay.specs.Tasks.{task_of as task_said};
 ghost use Rattle.iomap_replay.specs.declared.task.Task.TheVariants.{Run as RunIt, Check as CheckIt};
@@ -79,8 +79,9 @@ fn replay_source<S: Source, K: Sink>(
     fates: Vec<Box<dyn Fate + Send>>,
 ) -> Ending
     requires { length fates.items ≡ 17 }
-    ensures { Ends (Replays (map (λ f. opening_of (count f) (tells f)) fates.items)) result (S.faults source.old) (S.faults source.new)
+    ensures ends { Ends (Replays (map (λ f. opening_of (count f) (tells f)) fates.items)) result (S.faults source.old) (S.faults source.new)
         (K.faults sink.old) (K.faults sink.new) (S.left source.old) (S.left source.new) (K.taken sink.old) (K.taken sink.new) }
+    ensures finished { is_told result ≡ true → K.finished sink.new ≡ true }
 {
     match read_all(alloc, source) {
         Err(ReadError::Failed) => Ending::SourceFailed,
@@ -101,9 +102,9 @@ fn replay_source<S: Source, K: Sink>(
 ///
 /// | Status | When |
 /// |---|---|
-/// | 0 | the text was written whole, and every printed reply is `ok` |
-/// | 1 | the text was written whole, and a printed reply is `err` |
-/// | 2 | the text is refused; one line was written |
+/// | 0 | the text was written whole and finished, and every printed reply is `ok` |
+/// | 1 | the text was written whole and finished, and a printed reply is `err` |
+/// | 2 | the text is refused; one line was written and finished |
 /// | 3 | the source failed; nothing was written |
 /// | 4 | the sink failed; the beginning of the text was written |
 /// | 5 | there was no memory outside the calls' replies; nothing was written |
@@ -121,6 +122,9 @@ pub fn replay<R: Threads + Wait + Sync, S: Source, K: Sink>(
     // The words.
     ensures words { (result.0 ≡ 64) ↔ (task_said (map string_bytes words.now) ≡ None) }
     ensures bad_words { result.0 ≡ 64 → KeepsTold (K.taken sink.old) (K.taken sink.new) }
+
+    // What is told whole is finished: no other end of a call has one of these statuses.
+    ensures finished { is_told_by result.0 ≡ true → K.finished sink.new ≡ true }
 
     // Where the script is to be run: the text of a right run of it, or what hinders it, with its cause.
     ensures run { task_said (map string_bytes words.now) ≡ Some RunIt
