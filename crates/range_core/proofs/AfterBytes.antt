@@ -29,6 +29,7 @@ use Rattle.range_core.proofs.AfterEntry.{quiet_tickets}
 use Rattle.range_core.proofs.AfterRun.{changed_truth, keeps_claims}
 use Rattle.range_core.proofs.KeptPlaces.{KeepsPlaces, kept_kinds, kept_pending, kept_space}
 use Rattle.range_core.proofs.SampleLemmas.{samples_next}
+use Rattle.range_core.specs.Happened.{IsAsFound}
 
 -- An entry of this caller leaves a stamp of `by` on each block of the run, and no count of the range changes
 pub record StampsRun (size caller : ℕ) (now next : RangeView) (by : Tag) (run : ByteRun) (e : Entry) : Type 0 where
@@ -38,6 +39,7 @@ pub record StampsRun (size caller : ℕ) (now next : RangeView) (by : Tag) (run 
   pub changed : changes e ≡ 0
   pub stamps : stamps_of size e ≡ stamps_from run.first run.blocks (done_by by)
   pub sample : GivesPresent next e
+  pub found : IsAsFound size now e
 
 -- The entry changes the blocks of the run by f, each as it says, and is true of its content afterwards; any other it leaves
 pub record ActsOnRun (size first : ℕ) (now : RangeView) (stakes : List RangeStake) (f : ℕ → Cell → Cell) (run : ByteRun) (e : Entry) : Type 0 where
@@ -80,6 +82,7 @@ bytes_truth opening now history e stakes number claims made f by run t here cach
       headroom = let h = t.cookie_has_headroom in omega arith;
       uncached = λ d. absurd (not_dax now.mode (t.same_run.mode ∙ cached) d);
       space = kept_space f keeps size at run.blocks now.cells now.space t.pool_claims_sectors;
+      found = s.found;
     })
     (samples_next now next history e refl (omega arith) (λ _. kinds) t.samples_give_extents s.sample)
     (record { caller = refl; spare = refl; main = refl })

@@ -1,5 +1,5 @@
 -- The range truth after one more entry.
-use Rattle.std.proofs.Common.{◌≡◌, ◌≢◌, length, ℕ, ◌+◌, ◌-◌, ◌*◌, ◌/◌, ◌%◌, ◌≤◌, ◌^◌, nat_eq, Some, List, [], ◌∷◌, ◌++◌, get_or, set, All, refl, sym, ◌∙◌, ap, subst, arith, append_assoc, append-nil, ⊎_elim}
+use Rattle.std.proofs.Common.{◌≡◌, ◌≢◌, length, ℕ, ◌+◌, ◌-◌, ◌*◌, ◌/◌, ◌%◌, ◌≤◌, ◌^◌, nat_eq, Some, List, [], ◌∷◌, ◌++◌, get_or, set, true, All, refl, sym, ◌∙◌, ap, subst, arith, append_assoc, append-nil, ⊎_elim}
 use Rattle.std.specs.Prelude.{min, max, slice_get}
 use Rattle.std.proofs.Math.Nat.{mod-add-div', add-mul-mod_self_right}
 use Rattle.std.proofs.lemmas.List.Elements.{All-push}
@@ -14,7 +14,7 @@ use Rattle.io_model.specs.Contents.{Content}
 use Rattle.turn_cell.specs.Stakes.{total}
 use Rattle.turn_cell.proofs.Sums.{total-append, total-at, total-set}
 use Rattle.range_core.specs.BlockContents.{content_after, opening_bytes}
-use Rattle.range_core.specs.BlockStates.{state_after, state_of}
+use Rattle.range_core.specs.BlockStates.{BlockState, state_after, state_of}
 use Rattle.range_core.specs.BlockTruth.{IsTrueAt}
 use Rattle.range_core.specs.ClaimsView.{ClaimsView}
 use Rattle.range_core.specs.EntryCounts.{changes, failures, lendings, made_as, one_where}
@@ -30,6 +30,8 @@ use Rattle.range_core.specs.declared.entry.Entry.{Entry}
 use Rattle.range_core.proofs.KindRuns.{keep_samples, kinds_of}
 use Rattle.range_core.proofs.SpaceLemmas.{space_by_kinds}
 use Rattle.range_core.proofs.StakeTruth.{SameClaims, true-restaked}
+use Rattle.range_core.specs.Happened.{fits_by}
+use Rattle.range_core.proofs.LawfulLemmas.{lawful-more}
 
 -- what an entry makes of a range: each block's state, the counts, the cookie and the log
 pub record IsNext (size first : ℕ) (now next : RangeView) (e : Entry) : Type 0 where
@@ -42,6 +44,7 @@ pub record IsNext (size first : ℕ) (now next : RangeView) (e : Entry) : Type 0
   pub headroom : max next.cookie WORN + total pending next.cells ≤ WORN + 65536
   pub uncached : next.mode ≡ Dax → All IsUncached next.cells
   pub space : ClaimsSpace size next.cells next.space
+  pub found : (i : ℕ) (was : Cell) → slice_get now.cells i ≡ Some was → fits_by size (first + i) e (state_of was) ≡ true
 
 -- a seat goes on under its own number, with the numbers that it has spare
 pub record GoesOn (claims left : ClaimsView) : Type 0 where
@@ -154,6 +157,14 @@ module _ (opening now next : RangeView) (history : List Entry) (e : Entry) (stak
         cookie_has_headroom = n.headroom;
         dax_is_uncached = n.uncached;
         callers_are_apart = λ caller l. apart_more caller history e stakes number claims left made (made ++ e ∷ []) here goes by (t.callers_are_apart caller l);
+        has_happened = λ i first there.
+            let b = opening.first + i in
+            let was = get_or now.cells i first in
+            let l = slice_get_within opening.cells i first there in
+            let m = t.same_run.blocks in
+            let at : slice_get now.cells i ≡ Some was = slice_get-get_or now.cells i first (omega arith) in
+            let F : BlockState → Type 0 = λ s. fits_by size b e s ≡ true in
+            lawful-more size b (state_of first) history e (t.has_happened i first there) (subst F (t.states i first was there at) (n.found i was at));
       }
 
 -- no ticket was given
@@ -180,6 +191,7 @@ quiet_truth opening now history e stakes number claims made t here q gives by =
       log = sym (append-nil now.log) ∙ ap (λ l. now.log ++ l) (sym q.stamps);
       headroom = t.cookie_has_headroom;
       uncached = t.dax_is_uncached;
+      found = λ i was at. q.found (opening.first + i) (state_of was);
     })
     (All-push (GivesPresent now) history e t.samples_give_extents gives)
     (λ i was c content there at here_true.
@@ -210,6 +222,7 @@ paged_truth opening now cells history e stakes number claims made t here q gives
       log = sym (append-nil now.log) ∙ ap (λ l. now.log ++ l) (sym q.stamps);
       headroom = let h = t.cookie_has_headroom in omega arith;
       uncached = λ d. uncached (t.dax_is_uncached d);
+      found = λ i was at. q.found (opening.first + i) (state_of was);
     })
     (All-push (GivesPresent (record now { cells = cells })) history e (keep_samples now (record now { cells = cells }) history refl (omega arith) (λ _. kinds) t.samples_give_extents) gives)
     (λ i was c content there at here_true.

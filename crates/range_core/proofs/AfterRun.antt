@@ -26,6 +26,7 @@ use Rattle.range_core.specs.declared.entry.Entry.{Entry}
 use Rattle.range_core.proofs.AfterEntry.{GoesOn, after_entry, same_set}
 use Rattle.range_core.proofs.OnRunLemmas.{IsInRun, IsOutOfRun, length-on_each, on_each-at}
 use Rattle.range_core.proofs.StakeTruth.{true-restaked}
+use Rattle.range_core.specs.Happened.{IsAsFound, fits_by}
 
 -- a block is one of a run, or is not
 pub in_run-true : (low n b : ℕ) → low ≤ b → b < low + n → in_run low n b ≡ true
@@ -69,6 +70,7 @@ pub record CountsNext (size : ℕ) (now next : RangeView) (e : Entry) : Type 0 w
   pub headroom : max next.cookie WORN + total pending next.cells ≤ WORN + 65536
   pub uncached : next.mode ≡ Dax → All IsUncached next.cells
   pub space : ClaimsSpace size next.cells next.space
+  pub found : IsAsFound size now e
 
 module _ (opening now next : RangeView) (history : List Entry) (e : Entry) (stakes : List RangeStake) (number : ℕ) (claims left : ClaimsView) (made : List Entry) (f : ℕ → Cell → Cell) (block n : ℕ) where
   abbrev others : List RangeStake
@@ -137,6 +139,7 @@ module _ (opening now next : RangeView) (history : List Entry) (e : Entry) (stak
         headroom = n.headroom;
         uncached = n.uncached;
         space = n.space;
+        found = λ i was at. let F : ℕ → Type 0 = λ first. fits_by opening.geometry.block_size (first + i) e (state_of was) ≡ true in subst F t.same_run.first (n.found i was at);
       })
       samples
       (λ i was c content there at h. (changed_at r i was c content there at h).holds)

@@ -1,5 +1,5 @@
 -- What is told of the turns in which blocks take sectors.
-use Rattle.std.proofs.Common.{◌≡◌, ℕ, Bool, Some, None, Result, Ok, Err, IfOk, IfErr, OnOk, OnErr, List, [], ◌∷◌, ◌++◌, length, All, set, refl, sym, ◌∙◌, ap, subst}
+use Rattle.std.proofs.Common.{◌≡◌, ℕ, Bool, Some, None, Result, Ok, Err, IfOk, IfErr, OnOk, OnErr, List, [], ◌∷◌, ◌++◌, length, All, set, refl, sym, ◌∙◌, ap, subst, arith}
 use Rattle.std.specs.Prelude.{unwrap_or}
 use mathlib.Core.Option.{some}
 use lib.ListN.{get_elem?}
@@ -30,6 +30,7 @@ use Rattle.range_core.proofs.PlaceTruth.{IsTaking, place_truth}
 use Rattle.range_core.proofs.PoolLemmas.{kept_for}
 use Rattle.range_core.proofs.RefusedLemmas.{refused_is_quiet}
 use Rattle.range_core.proofs.SeatTruth.{refused_entry, refused_truth}
+use Rattle.range_core.proofs.FoundLemmas.{found_taken}
 
 module _ (opening now next : RangeView) (history : List Entry) (stakes : List RangeStake) (number : ℕ) (claims : ClaimsView) (made : List Entry) where
   -- the truth holds with one entry more
@@ -45,7 +46,7 @@ module _ (opening now next : RangeView) (history : List Entry) (stakes : List Ra
   -- the truth holds of a sound range whose picked blocks took sectors
   pub placed_turn : (picks : Cell → Bool) (holes : Cell → ℕ) (block n : ℕ) (sectors : List DeviceBlock) (space : SpaceClaims) (e : Entry) → RangeTruth opening now history stakes → get_elem? stakes number ≡ some (Some claims, made) → LiesAt opening block n
       → PicksSpaceless picks holes → next.seat.cell ≡ now.seat.cell → length sectors ≡ count_in picks now block n → All (HasSize now.geometry.block_size) sectors → worn now (some_block picks now block n) ≡ None → IsSound next
-      → next ≡ placed_run picks now block n sectors next.seat space → IsTaking opening.geometry.block_size e (pairs_taken picks now block n sectors) → e.caller ≡ claims.caller → HoldsWith e
+      → next ≡ placed_run picks now block n sectors next.seat space → IsTaking opening.geometry.block_size now e (pairs_taken picks now block n sectors) → e.caller ≡ claims.caller → HoldsWith e
   placed_turn picks holes block n sectors space e t here lies spaceless pool many whole calm sound is taking by =
       let same : now.geometry.block_size ≡ opening.geometry.block_size = ap (λ g. g.block_size) t.same_run.geometry in
       let W : ℕ → Type 0 = λ m. All (HasSize m) sectors in
@@ -64,8 +65,8 @@ module _ {R : Type 0} (run : AttachRun R) (opening now next : RangeView) (histor
   attach_turn (Ok taken) refused unchanged calm attached sound t here lies =
       let e : Entry = record { caller = claims.caller; event = Attach run.block run.blocks; outcome = Took (pairs_taken awaits_sector now run.block run.blocks attached.sectors) } in
       let pool = kept_for taken (TakesAt (pool_cell run.space.now).opening taken attached.sectors) (λ p q turn. turn.keeps) (place_of now) (place_of next) attached.pool in
-      let taking : IsTaking opening.geometry.block_size e (pairs_taken awaits_sector now run.block run.blocks attached.sectors) =
-      record { content = λ b x. refl; state = λ b s. refl; failed = refl; lent = refl; changed = refl; stamps = refl; gives = λ r. tt } in
+      let taking : IsTaking opening.geometry.block_size now e (pairs_taken awaits_sector now run.block run.blocks attached.sectors) =
+      record { content = λ b x. refl; state = λ b s. refl; failed = refl; lent = refl; changed = refl; stamps = refl; gives = λ r. tt; found = found_taken awaits_sector now run.block run.blocks attached.sectors (omega (arith, lies.low, t.same_run.first)) (attached.as_many ∙ attached.count) } in
       record {
         entry = e;
         told = (record { made = calm; attached = attached; entry_is = refl }, tt);
@@ -91,8 +92,8 @@ module _ {R : Type 0} (run : PreallocateRun R) (opening now next : RangeView) (h
       let e : Entry = record { caller = claims.caller; event = Preallocate run.block run.blocks; outcome = Took (pairs_taken lacks_sector now run.block run.blocks placed.sectors) } in
       let first = kept_for holes (ReservesAt opened holes (Ok tt)) (λ p q turn. turn.keeps) (place_of now) placed.promised placed.reserved in
       let then = kept_for taken (TakesAt opened taken placed.sectors) (λ p q turn. turn.keeps) placed.promised (place_of next) placed.took in
-      let taking : IsTaking opening.geometry.block_size e (pairs_taken lacks_sector now run.block run.blocks placed.sectors) =
-      record { content = λ b x. refl; state = λ b s. refl; failed = refl; lent = refl; changed = refl; stamps = refl; gives = λ r. tt } in
+      let taking : IsTaking opening.geometry.block_size now e (pairs_taken lacks_sector now run.block run.blocks placed.sectors) =
+      record { content = λ b x. refl; state = λ b s. refl; failed = refl; lent = refl; changed = refl; stamps = refl; gives = λ r. tt; found = found_taken lacks_sector now run.block run.blocks placed.sectors (omega (arith, lies.low, t.same_run.first)) (placed.as_many ∙ placed.count) } in
       record {
         entry = e;
         told = (record { made = calm; placed = placed; entry_is = refl }, tt);

@@ -78,6 +78,9 @@ use Rattle.range_core.specs.declared.entry.Event.{Event}
 use Rattle.range_core.specs.declared.sample.Sample.{Sample}
 use Rattle.range_core.proofs.EachLemmas.{is_there}
 use Rattle.range_core.proofs.DaxPutLemmas.{count-below, empty-spaceless}
+use Rattle.range_core.proofs.FoundLemmas.{bare-found, found_taken, if_any, met-run}
+use Rattle.range_core.proofs.LawfulLemmas.{both}
+use Rattle.range_core.specs.Happened.{took_just}
 
 -- a block of which nothing is cached or lent is true of the bytes written into its sector
 put_true : (size b : ℕ) (g : Content → Content) (c : Cell) (content : Content) (stakes : List RangeStake) → ((x : Content) → length x ≡ size → length (g x) ≡ size) → is_hole c.kind ≡ false → IsUncached c → IsTrueAt size b c content stakes
@@ -249,6 +252,14 @@ module _ (opening now next : RangeView) (history : List Entry) (stakes : List Ra
             rises now.cookie next.cookie (not (is_mapped seen.extent.kind)) (total pending now.cells) (total pending next.cells) cookie none t.cookie_has_headroom (λ u. unworn now (ap (worn now) (sym u) ∙ refusals.1));
         uncached = λ d. next_uncached;
         space = space;
+        found = λ i c at.
+            let b : ℕ = now.first + i in
+            let H : ℕ → Type 0 = λ n. length sectors ≡ count_in is_empty now (from / n) (blocks_met n from to) in
+            let as_many : length sectors ≡ count_in is_empty now run.first run.blocks = subst H (ap (λ q. q.block_size) t.same_run.geometry) many in
+            let took = found_taken is_empty now run.first run.blocks sectors (omega arith) as_many i c at in
+            let pairs : List (ℕ × ℕ) = pairs_taken is_empty now run.first run.blocks sectors in
+            both (took_just (is_met size from to b && is_hole c.kind) (taken_by b pairs)) _ (ap (λ u. took_just (u && is_hole c.kind) (taken_by b pairs)) (met-run run met b) ∙ took)
+            (if_any (is_met size from to b) _ (bare-found c (All-there IsUncached now.cells i c uncached at)));
       } in
       changed_truth opening now next history e stakes number claims claims made f run.first run.blocks t here changes_run counts
       (samples_next now next history e (ap (λ (r : RangeView). r.first) is) (omega arith)

@@ -17,7 +17,7 @@ use Rattle.range_core.specs.Fetches.{replayed_run}
 use Rattle.range_core.specs.RangeTruth.{IsUncached, RangeTruth, content_at}
 use Rattle.range_core.specs.RangeView.{LiesAt, RangeView}
 use Rattle.range_core.specs.Samples.{WasGiven}
-use Rattle.range_core.specs.Spots.{blocks_met}
+use Rattle.range_core.specs.Spots.{blocks_met, is_met}
 use Rattle.range_core.specs.Stakes.{RangeStake}
 use Rattle.range_core.specs.declared.cell.Cell.{Cell}
 use Rattle.range_core.specs.declared.entry.Entry.{Entry}
@@ -31,6 +31,7 @@ use Rattle.range_core.proofs.FirstTruth.{All-there}
 use Rattle.range_core.proofs.NowLemmas.{stored-content}
 use Rattle.range_core.proofs.SampleLemmas.{given_later, known_sample}
 use Rattle.range_core.proofs.StampedTruth.{stamped_truth}
+use Rattle.range_core.proofs.FoundLemmas.{bare-found, if_any}
 
 module _ (opening now : RangeView) (history : List Entry) (stakes : List RangeStake) (seen : Sample) (from to : ℕ) (t : RangeTruth opening now history stakes) (bytes : IsThrough opening seen from to) where
   same_size : now.geometry.block_size ≡ opening.geometry.block_size
@@ -104,6 +105,7 @@ module _ (opening now : RangeView) (history : List Entry) (stakes : List RangeSt
           changed = refl;
           stamps_are = ap (λ n. stamps_met n by from to) (sym same_size);
           sample = tt;
+          found = λ i c at. if_any (is_met opening.geometry.block_size from to (now.first + i)) _ (bare-found c (All-there IsUncached now.cells i c (t.dax_is_uncached is_dax) at));
         }))
     dax_get_keeps (Err f) same state =
         let T : RangeView → Type 0 = λ r. RangeTruth opening r (history ++ dax_get_entry claims by seen from to (Err f) ∷ []) (set stakes number (Some claims, made ++ dax_get_entry claims by seen from to (Err f) ∷ [])) in

@@ -32,6 +32,7 @@ use Rattle.range_core.proofs.SampleLemmas.{given_later, known_sample}
 use Rattle.range_core.proofs.StoreTruth.{if_met, if_unmet}
 use Rattle.range_core.proofs.ThroughTruth.{state-stays, through_truth, where_mapped_true}
 use Rattle.range_core.proofs.ZeroLemmas.{zeros_over}
+use Rattle.range_core.proofs.FoundLemmas.{bare-found, if_any}
 
 module _ (opening now : RangeView) (history : List Entry) (stakes : List RangeStake) (seen : Sample) (from to : ℕ) (t : RangeTruth opening now history stakes) (bytes : IsThrough opening seen from to) where
   same_size : now.geometry.block_size ≡ opening.geometry.block_size
@@ -73,7 +74,7 @@ module _ (opening now : RangeView) (history : List Entry) (stakes : List RangeSt
         let T : ℕ → Type 0 = λ n. RangeTruth opening (after_bytes (zeroed_through (run_between n from to)) now by (run_between n from to)) (history ++ e ∷ []) (set stakes number (Some claims, made ++ e ∷ [])) in
         subst T (sym same_size)
         (through_truth (zeroed_through run) (zeroed-stays run) opening now history e stakes number claims made by run t here bytes.lies.low
-        (record { caller_is = refl; failed = refl; lent = refl; changed = refl; stamps = refl; sample = tt })
+        (record { caller_is = refl; failed = refl; lent = refl; changed = refl; stamps = refl; sample = tt; found = λ i c at. if_any (is_met size from to (now.first + i)) _ (bare-found c (All-there IsUncached now.cells i c (t.dax_is_uncached (t.same_run.mode ∙ bytes.dax)) at)) })
         (record {
           content = λ b x out. if_unmet (is_met size from to b) (overlaid size from to (zeros_of run) b x) x (met-outside run met_blocks b out);
           state = λ b x out. refl;

@@ -48,6 +48,7 @@ pub record IsDirectlyOut (size k : ℕ) (c : Cell) (content : Content) (op : Op)
   pub kind : kind_after h.kind k ≡ c.kind
   pub ticket : ℕ
   pub away : c.away ≡ Some (record { ticket = ticket; lender = Direct by op })
+  pub ticket_is : ticket ≡ h.lent.value.ticket
 
 pub directly_out : (size b k : ℕ) (c : Cell) (content : Content) (op : Op) (by : Tag) (h : Held) → b ≡ h.lent.value.block + k → h.lender ≡ Direct by op → HasPlace size c.kind c.sector c.away → IsClaimed size b c content h → IsDirectlyOut size k c content op by h
 directly_out size b k c content op by h at lender place claimed =
@@ -67,6 +68,7 @@ directly_out size b k c content op by h at lender place claimed =
       kind = ap (λ j. kind_after h.kind j) (sym off) ∙ fits.kind;
       ticket = claimed.away.ticket;
       away = claimed.is ∙ ap (λ (l : Lender). Some (record { ticket = claimed.away.ticket; lender = l })) direct;
+      ticket_is = sym fits.ticket;
     }
 
 -- the content of the k-th block after the return

@@ -57,6 +57,10 @@ use Rattle.range_core.proofs.SampleLemmas.{samples_next}
 use Rattle.range_core.proofs.SoundLemmas.{total-moved}
 use Rattle.range_core.proofs.TransferLemmas.{after-at, length-after, moved, part_after}
 use Rattle.range_core.proofs.DirectBackBlocks.{AgreesBack, IsDirectlyOut, agrees_back, back_pending, back_state, back_true, content_inside, content_outside, directly_out, kind-stays, lost_by, map-on_each-at, out_of_run, pageless_clean, rise-within}
+use Rattle.range_core.specs.Happened.{is_out}
+use Rattle.range_core.proofs.FoundLemmas.{found_on, kind-found, out-found}
+use Rattle.range_core.proofs.LawfulLemmas.{both}
+use Rattle.io_model.specs.Kinds.{is_kind, kind_after}
 
 module _ (opening now : RangeView) (history : List Entry) (stakes : List RangeStake) (number : ℕ) (claims : ClaimsView) (made : List Entry) (by : Tag) (op : Op) (back : Lent) (done : Done)
     (t : RangeTruth opening now history stakes) (here : get_elem? stakes number ≡ some (Some claims, made)) (may : MayComeBack opening claims (Direct by op) op back done) where
@@ -255,6 +259,12 @@ module _ (opening now : RangeView) (history : List Entry) (stakes : List RangeSt
     headroom = headroom;
     uncached = λ d. absurd (cached d);
     space = back_space opening.geometry.block_size op done.failed back.parts.items (back.block - now.first) n now.cells now.space t.pool_claims_sectors;
+    found = found_on now back.block n (in_run back.block (length (map (λ (p : Page). p.bytes) (pages_held claims.held)))) (λ b s. is_out back.ticket (Direct by op) s.away && is_kind (kind_after kind (b - back.block)) s.kind) run.low
+        (λ b e. ap (λ m. in_run back.block m b) bytes_many ∙ e)
+        (λ k c l at.
+        let out = out_now k c l at in
+        both (is_out back.ticket (Direct by op) c.away) _ (out-found back.ticket (Direct by op) c.away (record { ticket = out.ticket; lender = Direct by op }) out.away (out.ticket_is ∙ sym may.is_return.ticket) refl)
+        (kind-found kind h.kind c.kind back.block k (sym kind_is) out.kind));
   }
     where
       cached : now.mode ≡ Dax → ⊥

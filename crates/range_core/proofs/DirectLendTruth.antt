@@ -1,6 +1,6 @@
 -- The range truth after a turn that lends blocks for a caller's own pages, or answers zeros.
 use Rattle.std.proofs.Common.{◌≡◌, ℕ, zero, suc, ◌+◌, ◌-◌, ◌<◌, Bool, true, false, if◌then◌else◌, Option, Some, None, List, [], ◌∷◌, ◌++◌, length, map, get_or, set, All, append-nil, refl, sym, ◌∙◌, ap, subst, arith}
-use Rattle.std.specs.Prelude.{IfErr, IfOk, OnErr, OnOk, Result, Ok, Err, slice_get, unwrap_or}
+use Rattle.std.specs.Prelude.{IfErr, IfOk, OnErr, OnOk, Result, Ok, Err, slice_get, unwrap_or, ◌&&◌, not}
 use Rattle.std.proofs.lemmas.Option.{slice_get-get_or, slice_get_within}
 use mathlib.Core.Option.{some}
 use lib.ListN.{get_elem?}
@@ -56,6 +56,14 @@ use Rattle.range_core.proofs.RefusedLemmas.{refused_is_quiet}
 use Rattle.range_core.proofs.SampleLemmas.{given_later, known_sample, samples_next}
 use Rattle.range_core.proofs.SpaceLemmas.{space_by_kinds}
 use Rattle.range_core.proofs.StampedTruth.{stamped_truth}
+use Rattle.range_core.specs.Happened.{is_lendable, is_settled}
+use Rattle.range_core.proofs.FoundLemmas.{found_run, lendable-found, settled-found}
+use Rattle.range_core.proofs.LawfulLemmas.{both}
+
+-- a block that does not go out is not mapped
+unmapped : (op : Op) (k : Kind) → goes_out op k ≡ false → is_mapped k ≡ false
+unmapped Read k e = e
+unmapped Write k e = absurd (cc)
 
 -- a turn that is ready may make the loan
 pub can_lend : (opening now : RangeView) (history seen : List Entry) (stakes : List RangeStake) (claims : ClaimsView) (change : LendPages) (pages : ArrayVec Page) → RangeTruth opening now history stakes → Begins seen history → (ready : ReadyToLend change opening seen claims)
@@ -180,16 +188,36 @@ module _ (opening now : RangeView) (history : List Entry) (stakes : List RangeSt
         headroom = pends;
         uncached = λ d. absurd (let c = can.cached in cc);
         space = space_by_kinds size now.cells next.cells now.space kinds t.pool_claims_sectors;
+        found = found_run now block n (λ b s. is_lendable op s.kind && is_settled s) can.lies.low
+            (λ k c l at.
+            let fresh = free.each k c l at in
+            both (is_lendable op c.kind) _
+            (lendable-found op c.kind (λ r. let G : Op → Type 0 = λ o. goes_out o seen.extent.kind ≡ true in ap is_mapped fresh.kind ∙ mapped-after seen.extent.kind _ ∙ subst G r out)
+            (ap has_space fresh.kind ∙ space-after seen.extent.kind _ ∙ out_has_space op seen.extent.kind can.takes out))
+            (settled-found c fresh.home fresh.clean));
       })
       (samples_next now next history lent_entry refl (omega arith) (λ _. kinds) t.samples_give_extents tt)
       (record { caller = ap (λ (c : ClaimsView). c.caller) hold.left_is; spare = ap (λ (c : ClaimsView). c.spare) hold.left_is; main = ap (λ (c : ClaimsView). c.main) hold.left_is })
       refl
 
   -- the truth holds when zeros are answered
-  pub zeros_truth : RangeTruth opening (zeros_given now by block (length pages)) (history ++ zeros_entry ∷ []) (set stakes number (Some claims, made ++ zeros_entry ∷ []))
-  zeros_truth =
+  pub zeros_truth : goes_out op seen.extent.kind ≡ false → RangeTruth opening (zeros_given now by block (length pages)) (history ++ zeros_entry ∷ []) (set stakes number (Some claims, made ++ zeros_entry ∷ []))
+  zeros_truth out =
       stamped_truth opening now history zeros_entry (stamps_from block (length pages) (done_by by)) stakes number claims made t here
-      (record { caller_is = refl; content = λ b x. refl; state = λ b s. refl; failed = refl; lent = refl; changed = refl; stamps_are = refl; sample = tt })
+      (record {
+        caller_is = refl;
+        content = λ b x. refl;
+        state = λ b s. refl;
+        failed = refl;
+        lent = refl;
+        changed = refl;
+        stamps_are = refl;
+        sample = tt;
+        found = found_run now block (length pages) (λ b s. not (is_mapped s.kind) && is_settled s) can.lies.low
+            (λ k c l at.
+            let fresh = free.each k c l at in
+            both (not (is_mapped c.kind)) _ (ap not (ap is_mapped fresh.kind ∙ mapped-after seen.extent.kind _ ∙ unmapped op seen.extent.kind out)) (settled-found c fresh.home fresh.clean));
+      })
 
   -- the blocks read as zeros
   zero_content : goes_out op seen.extent.kind ≡ false → (k : ℕ) → k < length pages → content_at opening history (block - opening.first + k) ≡ zeros opening.geometry.block_size
@@ -207,10 +235,6 @@ module _ (opening now : RangeView) (history : List Entry) (stakes : List RangeSt
       let H : Option Away → Type 0 = λ a. HomeContent size was (content_at opening history i) a in
       let home : IsHomeContent size was (content_at opening history i) = subst H fresh.home (t.blocks i was at).home_is_on_device in
       home.spaceless_is_zeros (ap is_mapped fresh.kind ∙ mapped-after seen.extent.kind _ ∙ unmapped op seen.extent.kind out) fresh.clean
-    where
-      unmapped : (op : Op) (k : Kind) → goes_out op k ≡ false → is_mapped k ≡ false
-      unmapped Read k e = e
-      unmapped Write k e = absurd (cc)
 
   -- pages of zeros have the contents of these blocks
   pub zeros_read : goes_out op seen.extent.kind ≡ false → (k : ℕ) (p : Page) → slice_get (map zeroed pages) k ≡ Some p → p.bytes ≡ content_at opening history (block - opening.first + k)
@@ -323,7 +347,7 @@ module _ (opening now next : RangeView) (history seen : List Entry) (stakes : Li
           let L : ClaimsView → Type 0 = λ c. After c (zeros_given now change.by change.block n) (entry_of pages.items zeros_in) in
           let entries : entry_of (pages_in change) answer ≡ entry_of pages.items zeros_in = ap (λ l. entry_of l answer) pages_are ∙ ap (entry_of pages.items) is in
           let same : left ≡ claims = subst H is a.claims_are in (
-            subst E (sym entries) (subst N (sym after) (subst L (sym same) (zeros_truth opening now history stakes number claims made change.by change.seen change.op change.block pages.items t here can free))),
+            subst E (sym entries) (subst N (sym after) (subst L (sym same) (zeros_truth opening now history stakes number claims made change.by change.seen change.op change.block pages.items t here can free out))),
             subst R (sym is) (zeros_read opening now history stakes number claims made change.by change.seen change.op change.block pages.items t here can free out),
           )
 

@@ -10,7 +10,7 @@ use Rattle.io_model.specs.Contents.{Content}
 use Rattle.iov_iter.specs.IovView.{IovView, written_on}
 use Rattle.range_core.specs.BlockStates.{state_of}
 use Rattle.range_core.specs.BlockTruth.{IsTrueAt, IsWholePage}
-use Rattle.range_core.specs.ByteRuns.{after_bytes, run_between, run_bytes, IsInFolio}
+use Rattle.range_core.specs.ByteRuns.{after_bytes, run_between, run_bytes, IsInFolio, IsByteRun}
 use Rattle.range_core.specs.ClaimsView.{ClaimsView}
 use Rattle.range_core.specs.Paging.{HaveWholePages, fill_each, HasWholePage, bytes_of, cached_at, filled, lacks_page}
 use Rattle.range_core.specs.Fetches.{after_fetch, fetched, replayed_run}
@@ -37,6 +37,8 @@ use Rattle.range_core.proofs.FillLemmas.{filled_true}
 use Rattle.range_core.proofs.PagingLemmas.{either_filled, filled-whole, filled_keeps}
 use Rattle.range_core.proofs.RefusedLemmas.{refused_is_quiet}
 use Rattle.range_core.proofs.StopLemmas.{neither, none_stops, run_of-at, where_true-not}
+use Rattle.range_core.specs.Happened.{keeps_page}
+use Rattle.range_core.proofs.FoundLemmas.{found_met, page-found}
 
 -- the truth after an event that was refused
 pub refused_truth : (opening now : RangeView) (history : List Entry) (stakes : List RangeStake) (number : ℕ) (claims : ClaimsView) (made : List Entry) (event : Event) (fault : EventFault) → RangeTruth opening now history stakes
@@ -119,19 +121,21 @@ fetch_done claims by from to = record { caller = claims.caller; event = Fetch by
 
 -- the truth after a fetch that came about
 pub fetched_truth : (opening now : RangeView) (history : List Entry) (stakes : List RangeStake) (number : ℕ) (claims : ClaimsView) (made : List Entry) (by : Tag) (from to : ℕ) → RangeTruth opening now history stakes
-    → get_elem? stakes number ≡ some (Some claims, made) → IsInFolio opening from to → fetch_refusal now from to ≡ None
+    → get_elem? stakes number ≡ some (Some claims, made) → IsInFolio opening from to → fetch_refusal now from to ≡ None → IsByteRun (run_between now.geometry.block_size from to)
     → RangeTruth opening (after_fetch now by from to) (history ++ fetch_done claims by from to ∷ []) (set stakes number (Some claims, made ++ fetch_done claims by from to ∷ []))
-fetched_truth opening now history stakes number claims made by from to t here bytes free =
+fetched_truth opening now history stakes number claims made by from to t here bytes free met_blocks =
     let size : ℕ = opening.geometry.block_size in
     let run : ByteRun = run_between size from to in
     let e : Entry = fetch_done claims by from to in
     let same : now.geometry.block_size ≡ size = ap (λ g. g.block_size) t.same_run.geometry in
     let F : ℕ → Type 0 = λ n. AreFetchable now (run_between n from to) in
     let able : AreFetchable now run = subst F same (fetchable now from to free) in
+    let C : ℕ → Type 0 = λ n. IsByteRun (run_between n from to) in
+    let cut : IsByteRun run = subst C same met_blocks in
     let T : ℕ → Type 0 = λ n. RangeTruth opening (after_bytes (fill_each (run_between n from to)) now by (run_between n from to)) (history ++ e ∷ []) (set stakes number (Some claims, made ++ e ∷ [])) in
     subst T (sym same)
     (bytes_truth opening now history e stakes number claims made (fill_each run) by run t here bytes.cached bytes.blocks.low (filled_keeps lacks_page size)
-    (record { caller_is = refl; failed = refl; lent = refl; changed = refl; stamps = refl; sample = tt })
+    (record { caller_is = refl; failed = refl; lent = refl; changed = refl; stamps = refl; sample = tt; found = found_met now run (λ b s. keeps_page s.away) cut (omega (arith, bytes.blocks.low, t.same_run.first)) (λ k c l at. page-found (run.first + k) c.away (able k c l at).0) })
     (record {
       content = λ b x out. refl;
       state = λ b x out. refl;
@@ -157,12 +161,12 @@ module _ (opening now after : RangeView) (history : List Entry) (stakes : List R
   entry answer = record { caller = claims.caller; event = Fetch by from to; outcome = finished answer }
 
   -- the truth after a fetch, whatever came of it
-  pub fetch_keeps : (answer : Result (Unit {0}) EventFault) → OnOk answer (fetch_refusal now from to ≡ None) → OnErr answer (after ≡ now) → OnOk answer (after ≡ after_fetch now by from to)
+  pub fetch_keeps : IsByteRun (run_between now.geometry.block_size from to) → (answer : Result (Unit {0}) EventFault) → OnOk answer (fetch_refusal now from to ≡ None) → OnErr answer (after ≡ now) → OnOk answer (after ≡ after_fetch now by from to)
       → RangeTruth opening after (history ++ entry answer ∷ []) (set stakes number (Some claims, made ++ entry answer ∷ []))
-  fetch_keeps (Ok x) free same state =
+  fetch_keeps cut (Ok x) free same state =
       let T : RangeView → Type 0 = λ r. RangeTruth opening r (history ++ entry (Ok x) ∷ []) (set stakes number (Some claims, made ++ entry (Ok x) ∷ [])) in
-      subst T (sym state) (fetched_truth opening now history stakes number claims made by from to t here bytes free)
-  fetch_keeps (Err f) free same state =
+      subst T (sym state) (fetched_truth opening now history stakes number claims made by from to t here bytes free cut)
+  fetch_keeps cut (Err f) free same state =
       let T : RangeView → Type 0 = λ r. RangeTruth opening r (history ++ entry (Err f) ∷ []) (set stakes number (Some claims, made ++ entry (Err f) ∷ [])) in
       subst T (sym same) (refused_truth opening now history stakes number claims made (Fetch by from to) f t here)
 

@@ -16,7 +16,7 @@ use Rattle.range_core.specs.BlockStates.{lent_for, state_of}
 use Rattle.range_core.specs.ClaimsView.{ClaimsView}
 use Rattle.range_core.specs.Fills.{IsColdRun, LentCold, MayFill, RefusedCold, cold_entry, cold_loan, fill_length, lent_cold}
 use Rattle.range_core.specs.EntryCounts.{one_where}
-use Rattle.range_core.specs.Kinds.{is_delalloc, is_unwritten}
+use Rattle.range_core.specs.Kinds.{is_delalloc, is_unwritten, is_mapped}
 use Rattle.range_core.specs.Lends.{TakesHold, lent_cell}
 use Rattle.range_core.specs.Lookups.{first_kind}
 use Rattle.range_core.specs.RangeTruth.{RangeTruth, is_lent_for_writing, pending}
@@ -38,6 +38,9 @@ use Rattle.range_core.proofs.LoanTurns.{loan_truth}
 use Rattle.range_core.proofs.LoanTruth.{clean_without_page, has_block, home_bytes}
 use Rattle.range_core.proofs.RefusedLemmas.{refused_is_quiet}
 use Rattle.range_core.proofs.SoundLemmas.{total-moved}
+use Rattle.range_core.proofs.FoundLemmas.{found_run, settled-found}
+use Rattle.range_core.proofs.LawfulLemmas.{both}
+use Rattle.range_core.specs.Happened.{is_settled}
 
 module _ (opening now : RangeView) (history : List Entry) (stakes : List RangeStake) (number : ℕ) (claims left : ClaimsView) (made : List Entry) (change : LendCold) where
   abbrev n : ℕ
@@ -74,6 +77,8 @@ module _ (opening now : RangeView) (history : List Entry) (stakes : List RangeSt
         stamps = refl;
         sample = tt;
         caller = refl;
+        found = found_run now change.block n (λ b s. is_mapped s.kind && is_settled s) (let low = may.lies.low in let first = t.same_run.first in omega arith)
+            (λ k c l at. let cold = run.cold k c l at in both (is_mapped c.kind) _ cold.mapped (settled-found c cold.home (clean_without_page opening.geometry.block_size _ c _ stakes (t.blocks _ c at) cold.page)));
       })
       (λ k was content l at h.
       let size : ℕ = opening.geometry.block_size in

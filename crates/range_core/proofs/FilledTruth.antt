@@ -32,7 +32,9 @@ use Rattle.range_core.proofs.FillBackLemmas.{filled-kind, filled_home, mapped_pe
 use Rattle.range_core.proofs.ReturnHomeLemmas.{IsReadBack, at_claim, home_placed, read_back}
 use Rattle.range_core.proofs.LoanTruth.{IsLentBlock, changes_seat, clean_without_page, true_returned}
 use Rattle.range_core.proofs.OnRunLemmas.{map-on_each}
-use Rattle.range_core.proofs.ReturnTurns.{back_named, back_pending, return_truth}
+use Rattle.range_core.proofs.ReturnTurns.{back_named, back_pending, return_truth, back_within, now_lent}
+use Rattle.range_core.specs.Happened.{is_out}
+use Rattle.range_core.proofs.FoundLemmas.{found_run, out-found}
 
 -- what a read that came back leaves of a block: its sector is as it was lent, and where all landed its page has the sector's bytes
 filled_true : (size b : ℕ) (was : Cell) (content : Content) (lent back : Part) (failed : Bool) (landed k : ℕ) (h : Held) (stakes others : List RangeStake) (claims left : ClaimsView) → ChangesSeat stakes others claims left
@@ -93,6 +95,10 @@ filled_holds opening now history stakes number claims made back done truth here 
       stamps = sym (append-nil now.log);
       sample = tt;
       caller = refl;
+      found = found_run now back.block n (λ b s. is_out back.ticket Reading s.away) (back_within opening now history stakes number claims made Reading Read back done entry fills now.log now.cookie now.errors truth here may).1
+          (λ k c l at.
+          let b = now_lent opening now history stakes number claims made Reading Read back done entry fills now.log now.cookie now.errors truth here may k c l at in
+          out-found back.ticket Reading c.away b.away b.gone (b.ticket ∙ sym may.is_return.ticket) (b.lender ∙ may.lent_for));
     })
     (λ k c part l at. filled_home done.failed back.parts.items k c part (ap (λ ps. slice_get ps k) may.is_return.parts ∙ at))
     (λ k was content l t b met.

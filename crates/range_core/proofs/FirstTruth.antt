@@ -212,4 +212,5 @@ first_truth geometry mode first blocks extents sectors seat space cookie can =
       cookie_has_headroom = omega arith;
       dax_is_uncached = λ _ k d l. record { page = (cold k d l).page; clean = (cold k d l).clean; reserved = placed k d l; home = (cold k d l).away };
       callers_are_apart = first_apart;
+      has_happened = λ i c at. refl;
     }

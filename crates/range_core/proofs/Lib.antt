@@ -29,12 +29,14 @@ pub mod FillLemmas
 pub mod FillTruth
 pub mod FilledTruth
 pub mod FirstTruth
+pub mod FoundLemmas
 pub mod GatheredParts
 pub mod HomeLemmas
 pub mod KeptPlaces
 pub mod KindLemmas
 pub mod KindRuns
 pub mod KindSteps
+pub mod LawfulLemmas
 pub mod LayLemmas
 pub mod LeadingLemmas
 pub mod LendLemmas
@@ -60,6 +62,7 @@ pub mod ReturnTurns
 pub mod RunLemmas
 pub mod SampleLemmas
 pub mod SeatTruth
+pub mod SectorLemmas
 pub mod SoundLemmas
 pub mod SpaceLemmas
 pub mod StakeTruth
@@ -76,6 +79,7 @@ pub mod WipeLemmas
 pub mod WipeTruth
 pub mod WriteLemmas
 pub mod WriteTruth
+pub mod WrittenLemmas
 pub mod WrittenTruth
 pub mod ZeroLemmas
 pub mod ZeroTruth

@@ -143,6 +143,7 @@ pub record IsLentBlock (size k : ℕ) (c : Cell) (content : Content) (h : Held) 
   pub sector : IfSome (device_number c.kind) (λ d. IsBlock size d part.sector)
   pub page : IsWholePage size part.page
   pub fits : FitsLender size c content part h.lender
+  pub ticket : away.ticket ≡ h.lent.value.ticket
 
 pub lent_block : (size b k : ℕ) (c : Cell) (content : Content) (stakes : List RangeStake) (number : ℕ) (claims : ClaimsView) (made : List Entry) (h : Held) → b ≡ h.lent.value.block + k → IsTrueAt size b c content stakes
     → get_elem? stakes number ≡ some (Some claims, made) → claims.held ≡ Some h → names_block b (Some h) ≡ true → IsLentBlock size k c content h
@@ -162,4 +163,5 @@ lent_block size b k c content stakes number claims made h at t here held named =
       sector = fits.sector;
       page = fits.page;
       fits = subst F (sym fits.lender) fits.fits;
+      ticket = sym fits.ticket;
     }

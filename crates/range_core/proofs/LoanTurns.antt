@@ -37,6 +37,7 @@ use Rattle.range_core.proofs.LoanTruth.{changes_seat, has_block, loan_fits, true
 use Rattle.range_core.proofs.OnRunLemmas.{map-on_each}
 use Rattle.range_core.proofs.SampleLemmas.{samples_next}
 use Rattle.range_core.proofs.SpaceLemmas.{space_by_kinds}
+use Rattle.range_core.specs.Happened.{IsAsFound}
 
 -- what a claim on so many blocks names
 loan_named : (block n x : ℕ) (claims left : ClaimsView) (claim : Held) → left ≡ holding claims claim → claim.lent.value.block ≡ block → length claim.lent.value.parts.items ≡ n → names_block x left.held ≡ in_run block n x
@@ -69,6 +70,7 @@ module _ (opening now : RangeView) (history : List Entry) (stakes : List RangeSt
     pub stamps : stamps_of size entry ≡ []
     pub sample : GivesPresent next entry
     pub caller : entry.caller ≡ claims.caller
+    pub found : IsAsFound size now entry
 
   -- the k-th block may be lent with its page, and what stays of it is right
   pub record LendsBlock (k : ℕ) (was : Cell) (content : Content) : Type 0 where
@@ -139,6 +141,7 @@ module _ (opening now : RangeView) (history : List Entry) (stakes : List RangeSt
         headroom = headroom;
         uncached = uncached;
         space = space_by_kinds size now.cells next.cells now.space kinds t.pool_claims_sectors;
+        found = is.found;
       })
       (samples_next now next history entry refl (omega arith) (λ _. kinds) t.samples_give_extents is.sample)
       (record { caller = ap (λ (c : ClaimsView). c.caller) hold.left_is; spare = ap (λ (c : ClaimsView). c.spare) hold.left_is; main = ap (λ (c : ClaimsView). c.main) hold.left_is }) is.caller

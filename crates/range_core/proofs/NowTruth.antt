@@ -25,6 +25,8 @@ use Rattle.range_core.proofs.OnRunLemmas.{map-on_each, total-on_each}
 use Rattle.range_core.proofs.RefusedLemmas.{refused_is_quiet}
 use Rattle.range_core.proofs.SampleLemmas.{samples_next, slice_get-drop}
 use Rattle.range_core.proofs.SpaceLemmas.{space_by_kinds}
+use Rattle.range_core.specs.Happened.{is_settled}
+use Rattle.range_core.proofs.FoundLemmas.{found_run, settled-found}
 
 abbrev drops : ℕ → Cell → Cell
 drops _ c = without_mapped_page c
@@ -64,6 +66,8 @@ module _ (opening now : RangeView) (history : List Entry) (by : Tag) (b most : �
         headroom = let h = t.cookie_has_headroom in let p : total pending next.cells ≡ total pending now.cells = total-on_each drops pending (λ _. unmapped-pending) 0 (b - now.first) n now.cells in omega arith;
         uncached = λ d. let no : Cached ≡ Dax = sym cached ∙ d in absurd (cc);
         space = space_by_kinds size now.cells next.cells now.space kinds t.pool_claims_sectors;
+        found = found_run now b n (λ _ s. is_settled s) low
+            (λ k c l at. let is = now_length-clean (cells_from now b) most k c (omega arith) (slice_get-drop (b - now.first) k now.cells ∙ at) in settled-found c is.home is.clean);
       })
       (samples_next now next history e refl (omega arith) (λ _. kinds) t.samples_give_extents tt)
       (record { caller = refl; spare = refl; main = refl }) refl

@@ -42,6 +42,7 @@ use Rattle.range_core.proofs.OnRunLemmas.{All-on_each, length-on_each}
 use Rattle.range_core.proofs.PlaceLemmas.{length-pairs, state-placed, taken-in_run, taken-out_of_run}
 use Rattle.range_core.proofs.PlaceSpace.{All-got, PicksSpaceless, picked-placed}
 use Rattle.range_core.proofs.SampleLemmas.{samples_next}
+use Rattle.range_core.specs.Happened.{IsAsFound}
 
 unmapped : (k : Kind) → has_space k ≡ false → is_mapped k ≡ false
 unmapped Hole e = refl
@@ -78,7 +79,7 @@ picked-uncached true None c u = u
 picked-uncached true (Some s) c u = record { page = u.page; clean = u.clean; reserved = refl; home = u.home }
 
 -- an entry tells that these blocks took sectors, and leaves everything else as it was
-pub record IsTaking (size : ℕ) (e : Entry) (pairs : List (ℕ × ℕ)) : Type 0 where
+pub record IsTaking (size : ℕ) (now : RangeView) (e : Entry) (pairs : List (ℕ × ℕ)) : Type 0 where
   pub content : (b : ℕ) (x : Content) → content_after size b x e ≡ x
   pub state : (b : ℕ) (s : BlockState) → state_after size b s e ≡ with_space (taken_by b pairs) s
   pub failed : failures e ≡ 0
@@ -86,6 +87,7 @@ pub record IsTaking (size : ℕ) (e : Entry) (pairs : List (ℕ × ℕ)) : Type 
   pub changed : changes e ≡ one_where (nat_lt 0 (length pairs))
   pub stamps : stamps_of size e ≡ []
   pub gives : (r : RangeView) → GivesPresent r e
+  pub found : IsAsFound size now e
 
 -- a range keeps its headroom where its cookie rises only for a change of kind, and is not used up then
 pub headroom_next : (opening now next : RangeView) (history : List Entry) (stakes : List RangeStake) (k : ℕ) → RangeTruth opening now history stakes → next.cookie ≡ now.cookie + one_where (nat_lt 0 k) → (0 < k → now.cookie < WORN)
@@ -110,7 +112,7 @@ module _ (picks : Cell → Bool) (holes : Cell → ℕ) (opening now : RangeView
   f = placed_at picks (block - now.first) now.cells sectors
 
   pub place_truth : RangeTruth opening now history stakes → get_elem? stakes number ≡ some (Some claims, made) → LiesAt opening block n → PicksSpaceless picks holes → seat.cell ≡ now.seat.cell → length sectors ≡ count_in picks now block n
-      → All (HasSize opening.geometry.block_size) sectors → (0 < count_in picks now block n → now.cookie < WORN) → ClaimsSpace opening.geometry.block_size next.cells space → IsTaking opening.geometry.block_size e (pairs_taken picks now block n sectors)
+      → All (HasSize opening.geometry.block_size) sectors → (0 < count_in picks now block n → now.cookie < WORN) → ClaimsSpace opening.geometry.block_size next.cells space → IsTaking opening.geometry.block_size now e (pairs_taken picks now block n sectors)
       → e.caller ≡ claims.caller → RangeTruth opening next (history ++ e ∷ []) (set stakes number (Some claims, made ++ e ∷ []))
   place_truth t here lies spaceless pool many whole unworn claimed taking by =
       let size : ℕ = opening.geometry.block_size in
@@ -147,6 +149,7 @@ module _ (picks : Cell → Bool) (holes : Cell → ℕ) (opening now : RangeView
         headroom = headroom_next opening now next history stakes k t refl unworn (λ none. let p : total pending next.cells ≡ total pending now.cells = ap (total pending) (same none) in omega arith) (length-on_each f 0 (block - now.first) n now.cells);
         uncached = λ d. All-on_each f IsUncached (λ j c. picked-uncached (picks c) _ c) 0 (block - now.first) n now.cells (t.dax_is_uncached d);
         space = claimed;
+        found = taking.found;
       } in
       changed_truth opening now next history e stakes number claims claims made f block n t here run counts
       (samples_next now next history e refl (omega arith) (λ still. ap kinds_of (same (unrisen now.cookie k still))) t.samples_give_extents (taking.gives next))

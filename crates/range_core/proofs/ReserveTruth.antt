@@ -16,7 +16,7 @@ use Rattle.range_core.specs.BlockStates.{state_of}
 use Rattle.range_core.specs.BlockTruth.{IsTrueAt}
 use Rattle.range_core.specs.Cells.{HasPlace, cold_cell}
 use Rattle.range_core.specs.ClaimsView.{ClaimsView}
-use Rattle.range_core.specs.Kinds.{has_space, is_mapped}
+use Rattle.range_core.specs.Kinds.{has_space, is_mapped, is_hole}
 use Rattle.range_core.specs.Lookups.{GivesPresent, extent_at, first_kind}
 use Rattle.range_core.specs.OnRun.{on_each}
 use Rattle.range_core.specs.PoolTurns.{LeavesAlone, ReservesSomeAt, place_of}
@@ -43,6 +43,7 @@ use Rattle.range_core.proofs.PromiseLemmas.{AreHoles, sampled_holes, space_promi
 use Rattle.range_core.proofs.SampleLemmas.{samples_next, slice_get-drop}
 use Rattle.range_core.proofs.SeatTruth.{refused_truth}
 use Rattle.range_core.proofs.StopLemmas.{neither, unworn}
+use Rattle.range_core.proofs.FoundLemmas.{found_run}
 
 -- where a block has a page that passes no test, it is nothing
 none_and : {A : Type 0} (P Q : A → Type 0) (o : Option A) → ((x : A) → P x → Q x) → IsSomeAnd o P → IsSomeAnd o Q
@@ -146,6 +147,7 @@ module _ (opening now : RangeView) (seat : SeatView PoolEntry) (history : List E
         headroom = let p = total-few pending (next now seat seen m).cells pending-few in let q = t.few in let r = t.same_run.blocks in omega arith;
         uncached = λ d. absurd (let c = asks.mode in cc);
         space = space_promised size (block - now.first) m now.cells now.space holes t.pool_claims_sectors;
+        found = found_run now block m (λ b s. is_hole s.kind) low (λ k c l at. ap is_hole (holes.holes k c l at));
       } in
       let le : now.cookie + 1 ≤ now.cookie + 1 = omega arith in
       let gives : GivesPresent (next now seat seen m) e = record { past = le; begins = low; present = λ _. reserved_present now seat seen m holes least stripe } in

@@ -36,6 +36,7 @@ use Rattle.range_core.proofs.LoanTruth.{IsLentBlock, changes_seat, lent_block, t
 use Rattle.range_core.proofs.ReturnLemmas.{are_out}
 use Rattle.range_core.proofs.SampleLemmas.{samples_next}
 use Rattle.range_core.proofs.SoundLemmas.{All-on_each_at, total-moved}
+use Rattle.range_core.specs.Happened.{IsAsFound}
 
 module _ (opening now : RangeView) (history : List Entry) (stakes : List RangeStake) (number : ℕ) (claims : ClaimsView) (made : List Entry) (lender : Lender) (op : Op) (back : Lent) (done : Done) (entry : Entry) (f : ℕ → Cell → Cell) (log : List (ℕ × Stamp)) (cookie errors : ℕ) where
   abbrev size : ℕ
@@ -63,6 +64,7 @@ module _ (opening now : RangeView) (history : List Entry) (stakes : List RangeSt
     pub stamps : log ≡ now.log ++ stamps_of size entry
     pub sample : GivesPresent next entry
     pub caller : entry.caller ≡ claims.caller
+    pub found : IsAsFound size now entry
 
   module _ (truth : RangeTruth opening now history stakes) (here : get_elem? stakes number ≡ some (Some claims, made)) (may : MayComeBack opening claims lender op back done) where
     -- what comes back is what was claimed
@@ -147,6 +149,7 @@ module _ (opening now : RangeView) (history : List Entry) (stakes : List RangeSt
           headroom = headroom;
           uncached = back_uncached;
           space = back_space home;
+          found = is.found;
         })
         (samples_next now next history entry refl (omega arith) kinds truth.samples_give_extents is.sample)
         (record { caller = refl; spare = refl; main = refl }) is.caller

@@ -37,6 +37,7 @@ seat_truth opening now seat history stakes same t = record {
   cookie_has_headroom = t.cookie_has_headroom;
   dax_is_uncached = t.dax_is_uncached;
   callers_are_apart = t.callers_are_apart;
+  has_happened = t.has_happened;
 }
 
 -- the entry of an event that was refused

@@ -62,6 +62,7 @@ restaked opening now history stakes others t same apart = record {
   cookie_has_headroom = t.cookie_has_headroom;
   dax_is_uncached = t.dax_is_uncached;
   callers_are_apart = apart;
+  has_happened = t.has_happened;
 }
 
 -- caller numbers stay apart where no more are spare, no more are in use, and none that is spare is worked under

@@ -22,6 +22,7 @@ use Rattle.range_core.proofs.AfterRun.{changed_truth, keeps_claims}
 use Rattle.range_core.proofs.OnRunLemmas.{on_each-none}
 use Rattle.range_core.proofs.SampleLemmas.{samples_next}
 use Rattle.range_core.proofs.SoundLemmas.{sound_next, stamps_from-range}
+use Rattle.range_core.specs.Happened.{IsAsFound}
 
 -- No block has another content, kind, dirty bit or ticket after the entry of this caller, none of the counts rose, and it left these stamps
 pub record OnlyStamps (size caller : ℕ) (now : RangeView) (e : Entry) (stamps : List (ℕ × Stamp)) : Type 0 where
@@ -33,6 +34,7 @@ pub record OnlyStamps (size caller : ℕ) (now : RangeView) (e : Entry) (stamps 
   pub changed : changes e ≡ 0
   pub stamps_are : stamps_of size e ≡ stamps
   pub sample : GivesPresent (with_stamps now stamps) e
+  pub found : IsAsFound size now e
 
 pub stamped_truth : (opening now : RangeView) (history : List Entry) (e : Entry) (stamps : List (ℕ × Stamp)) (stakes : List RangeStake) (number : ℕ) (claims : ClaimsView) (made : List Entry) → RangeTruth opening now history stakes
     → get_elem? stakes number ≡ some (Some claims, made) → OnlyStamps opening.geometry.block_size claims.caller now e stamps
@@ -60,6 +62,7 @@ stamped_truth opening now history e stamps stakes number claims made t here only
       headroom = t.cookie_has_headroom;
       uncached = t.dax_is_uncached;
       space = t.pool_claims_sectors;
+      found = only.found;
     })
     (samples_next now next history e refl (let c = only.changed in omega arith) (λ _. refl) t.samples_give_extents only.sample)
     (record { caller = refl; spare = refl; main = refl })

@@ -37,6 +37,9 @@ use Rattle.range_core.proofs.LayLemmas.{stored_true}
 use Rattle.range_core.proofs.PagingLemmas.{either_filled}
 use Rattle.range_core.proofs.StopLemmas.{neither, none_stops, run_of-at, where_true-not}
 use Rattle.range_core.proofs.StoreLemmas.{stored_keeps}
+use Rattle.range_core.proofs.FoundLemmas.{found_met, page-found}
+use Rattle.range_core.proofs.LawfulLemmas.{both}
+use Rattle.range_core.specs.Happened.{keeps_page}
 
 -- no block of a run hinders a store over it
 abbrev pub AreStorable : RangeView → ByteRun → Type 0
@@ -74,6 +77,12 @@ no_hole Hole i e h = absurd (cc)
 no_hole Delalloc i e h = cc
 no_hole (Unwritten d) i e h = cc
 no_hole (Mapped d) i e h = cc
+
+not_hole : (kind : Kind) → kind ≢ Hole → not (is_hole kind) ≡ true
+not_hole Hole h = absurd (h refl)
+not_hole Delalloc h = refl
+not_hole (Unwritten d) h = refl
+not_hole (Mapped d) h = refl
 
 -- a block of the sample's extent is no hole
 pub seen_space : (r : RangeView) (seen : Sample) (first k blocks : ℕ) (c : Cell) → IsExtentOf r seen.extent → seen.extent.block ≤ first → first + blocks ≤ seen.extent.block + seen.extent.length → is_hole seen.extent.kind ≡ false → k < blocks
@@ -119,7 +128,17 @@ module _ (opening now : RangeView) (history : List Entry) (stakes : List RangeSt
       let T : ℕ → Type 0 = λ n. RangeTruth opening (after_bytes (stored (run_between n from to) bytes) now by (run_between n from to)) (history ++ e ∷ []) (set stakes number (Some claims, made ++ e ∷ [])) in
       subst T (sym same)
       (bytes_truth opening now history e stakes number claims made (stored run bytes) by run t here folio.cached folio.blocks.low (stored_keeps run bytes)
-      (record { caller_is = refl; failed = refl; lent = refl; changed = refl; stamps = refl; sample = tt })
+      (record {
+        caller_is = refl;
+        failed = refl;
+        lent = refl;
+        changed = refl;
+        stamps = refl;
+        sample = tt;
+        found = found_met now run (λ b s. not (is_hole s.kind) && keeps_page s.away) met_blocks (omega (arith, folio.blocks.low, first))
+            (λ k c l at.
+            both (not (is_hole c.kind)) _ (not_hole c.kind (seen_space now seen run.first k run.blocks c (known able.fresh) extent.low extent.high space l at)) (page-found (run.first + k) c.away (blocks k c l at).0));
+      })
       (record {
         content = λ b x out. if_unmet (is_met size from to b) (overlaid size from to bytes b x) x (met-outside run met_blocks b out);
         state = λ b x out. if_unmet (is_met size from to b) (record x { dirty = true }) x (met-outside run met_blocks b out);

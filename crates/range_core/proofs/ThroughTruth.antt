@@ -104,6 +104,7 @@ module _ (f : ℕ → Cell → Cell) (keeps : KeepsStates f) where
         headroom = let h = t.cookie_has_headroom in omega arith;
         uncached = λ d. All-on_each f IsUncached uncached-stays 0 at run.blocks now.cells (t.dax_is_uncached d);
         space = space_stays size at run.blocks now.cells now.space t.pool_claims_sectors;
+        found = s.found;
       })
       (samples_next now next history e refl (omega arith) (λ _. kinds) t.samples_give_extents s.sample)
       (record { caller = refl; spare = refl; main = refl })

@@ -76,6 +76,7 @@ module _ (opening now : RangeView) (seat : SeatView PoolEntry) (history : List E
         headroom = let h = t.cookie_has_headroom in let r = rises-few (count_in is_unused now block n) in omega arith;
         uncached = λ d. All-on_each f IsUncached (λ _. released-uncached) 0 (block - now.first) n now.cells (t.dax_is_uncached d);
         space = space_released size (block - now.first) n now.cells now.space t.pool_claims_sectors;
+        found = λ i c at. refl;
       } in
       changed_truth opening now next history e stakes number claims claims made f block n t here run next_counts
       (samples_next now next history e refl (omega arith)

@@ -1,6 +1,6 @@
 -- The range truth after blocks became holes.
 use Rattle.std.proofs.Common.{◌≡◌, ℕ, ◌+◌, ◌-◌, Bool, true, false, not, nat_lt, if◌then◌else◌, Option, Some, None, Result, Ok, Err, IfOk, IfErr, OnOk, OnErr, List, [], ◌∷◌, ◌++◌, take, drop, set, refl, sym, ◌∙◌, ap, subst, arith}
-use Rattle.std.specs.Prelude.{slice_get, unwrap_or}
+use Rattle.std.specs.Prelude.{slice_get, unwrap_or, is_none}
 use Rattle.std.proofs.lemmas.List.{length-replicate}
 use mathlib.Core.Option.{some}
 use lib.ListN.{get_elem?}
@@ -48,6 +48,8 @@ use Rattle.range_core.proofs.RefusedLemmas.{refused_is_quiet}
 use Rattle.range_core.proofs.SampleLemmas.{samples_next}
 use Rattle.range_core.proofs.StopLemmas.{neither}
 use Rattle.range_core.proofs.WipeLemmas.{all_home, home_at, wipes}
+use Rattle.range_core.specs.Happened.{is_at_home}
+use Rattle.range_core.proofs.FoundLemmas.{found_run}
 
 -- a hole reads as zeros
 wiped-true : (size b : ℕ) (c : Cell) (content : Content) (stakes : List RangeStake) → c.away ≡ None → IsTrueAt size b c content stakes → IsTrueAt size b (wiped c) (zeros size) stakes
@@ -119,6 +121,7 @@ module _ (opening now : RangeView) (seat : SeatView PoolEntry) (history : List E
         headroom = headroom_next opening now next history stakes (used_in now block n) t refl (unworn_for is_used now block n free.1) (λ _. omega arith) (length-on_each wipes 0 low n now.cells);
         uncached = λ d. All-on_each wipes IsUncached (λ j c u. record { page = refl; clean = refl; reserved = refl; home = u.home }) 0 low n now.cells (t.dax_is_uncached d);
         space = claimed;
+        found = found_run now block n (λ b s. is_at_home s) (let l = lies.low in let f = t.same_run.first in omega arith) (λ j c l at. ap is_none (home_at low n j now.cells c l at homes));
       } in
       changed_truth opening now next history e stakes number claims claims made wipes block n t here run counts
       (samples_next now next history e refl (omega arith) (λ still. map-unpicked wipes (λ (c : Cell). c.kind) is_used (λ j c u. wiped-hole c u) 0 low n now.cells (unrisen now.cookie _ still)) t.samples_give_extents tt)

@@ -1,6 +1,6 @@
 -- The turn that lends dirty blocks for a write keeps the truth.
 use Rattle.std.proofs.Common.{◌≡◌, ◌≢◌, ℕ, ◌+◌, ◌-◌, ◌<◌, ◌≤◌, Bool, true, false, if◌then◌else◌, Option, Some, None, Result, Ok, Err, IsSomeAnd, IfSome, IfOk, IfErr, OnOk, OnErr, List, [], ◌∷◌, ◌++◌, length, take, drop, map, get_or, option_map, set, All, refl, sym, ◌∙◌, ap, subst, arith}
-use Rattle.std.specs.Prelude.{◌||◌, MatchResult, max, unwrap_or}
+use Rattle.std.specs.Prelude.{◌||◌, MatchResult, max, unwrap_or, ◌&&◌, is_none}
 use Rattle.std.specs.List.{list_any}
 use Rattle.std.proofs.lemmas.Option.{slice_get-get_or, slice_get-map}
 use mathlib.Core.Option.{some}
@@ -16,7 +16,7 @@ use Rattle.turn_cell.specs.Stakes.{total}
 use Rattle.range_core.specs.BlockStates.{lent_clean, state_of}
 use Rattle.range_core.specs.BlockTruth.{IsTrueAt, IsWholePage}
 use Rattle.range_core.specs.ClaimsView.{ClaimsView}
-use Rattle.range_core.specs.Kinds.{is_unwritten}
+use Rattle.range_core.specs.Kinds.{is_unwritten, has_space}
 use Rattle.range_core.specs.Lends.{TakesHold, lent_cell}
 use Rattle.range_core.specs.Lookups.{first_kind}
 use Rattle.range_core.specs.RangeTruth.{IsUncached, RangeTruth, content_at, pending}
@@ -43,6 +43,9 @@ use Rattle.range_core.proofs.RefusedLemmas.{refused_is_quiet}
 use Rattle.range_core.proofs.SoundLemmas.{total-moved}
 use Rattle.range_core.proofs.StopLemmas.{neither, unworn}
 use Rattle.range_core.proofs.WriteLemmas.{copies-length, mapped_of, pending-few, taken_at, unwritten_after}
+use Rattle.range_core.proofs.FoundLemmas.{found_run}
+use Rattle.range_core.proofs.LawfulLemmas.{both}
+use Rattle.range_core.specs.Happened.{is_at_home}
 
 -- the page of a dirty block
 record HasPage (c : Cell) (content : Content) : Type 0 where
@@ -137,6 +140,8 @@ module _ (opening now : RangeView) (history : List Entry) (stakes : List RangeSt
         stamps = refl;
         sample = tt;
         caller = refl;
+        found = found_run now change.block n (λ b s. has_space s.kind && (is_at_home s && s.dirty)) (let low = may.lies.low in let first = t.same_run.first in omega arith)
+            (λ k c l at. let dirty = run.dirty k c l at in both (has_space c.kind) _ dirty.space (both (is_none c.away) c.dirty (ap is_none dirty.home) dirty.dirty));
       })
       (λ k was content l at h.
       let size : ℕ = opening.geometry.block_size in

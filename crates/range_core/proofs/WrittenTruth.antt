@@ -10,7 +10,7 @@ use Rattle.iob_base.specs.declared.stamp.Op.TheVariants.{Write}
 use Rattle.fault_device.specs.declared.lane.Done.{Done}
 use Rattle.iob_base.specs.declared.part.Part.{Part}
 use Rattle.io_model.specs.Contents.{Content}
-use Rattle.io_model.specs.Kinds.{device_number}
+use Rattle.io_model.specs.Kinds.{device_number, is_kind, kind_after}
 use Rattle.io_model.specs.declared.file.Kind.{Kind}
 use Rattle.io_model.specs.declared.file.Kind.TheVariants.{Hole}
 use Rattle.turn_cell.specs.Stakes.{total}
@@ -45,6 +45,9 @@ use Rattle.range_core.proofs.LoanTruth.{IsLentBlock, changes_seat, true_returned
 use Rattle.range_core.proofs.OnRunLemmas.{map-on_each, map-on_each_at}
 use Rattle.range_core.proofs.ReturnTurns.{back_named, back_pending, back_within, now_lent, return_truth}
 use Rattle.range_core.proofs.WriteLemmas.{ended_home, home_pending, lent_pending, mapped_of, space_no_hole, unwritten_after, written-delalloc, written-mapped, written-number, written_same}
+use Rattle.range_core.specs.Happened.{is_out}
+use Rattle.range_core.proofs.FoundLemmas.{found_run, kind-found, out-found}
+use Rattle.range_core.proofs.LawfulLemmas.{both}
 
 -- what a write that came back leaves of a block: where it failed the block is dirty, and else its sector has the page's bytes, unless a store changed them
 ended_true : (size b : ℕ) (was : Cell) (content : Content) (lent back : Part) (failed : Bool) (landed k : ℕ) (h : Held) (stakes others : List RangeStake) (claims left : ClaimsView) → ChangesSeat stakes others claims left
@@ -204,6 +207,11 @@ module _ (opening now : RangeView) (history : List Entry) (stakes : List RangeSt
         stamps = sym (append-nil now.log);
         sample = tt;
         caller = refl;
+        found = found_run now back.block n (λ b s. is_out back.ticket Writeback s.away && is_kind (kind_after kind (b - back.block)) s.kind)
+            (back_within opening now history stakes number claims made Writeback Write back done entry ends now.log next.cookie next.errors truth here may).1
+            (λ k c l at.
+            let b = lent k c l at in
+            both (is_out back.ticket Writeback c.away) _ (out-found back.ticket Writeback c.away b.away b.gone (b.ticket ∙ sym may.is_return.ticket) (b.lender ∙ may.lent_for)) (kind-found kind may.claim.kind c.kind back.block k kind_is b.kind));
       })
       (λ k c part l at. ended_home done.failed back.parts.items k c part (ap (λ ps. slice_get ps k) may.is_return.parts ∙ at))
       (λ k was content l t b met.

@@ -1,5 +1,5 @@
 -- The range truth after a store of zeros.
-use Rattle.std.proofs.Common.{◌≡◌, ◌≢◌, ℕ, ◌+◌, ◌-◌, ◌<◌, Bool, true, false, not, ◌&&◌, if◌then◌else◌, Option, Some, None, List, [], ◌∷◌, ◌++◌, length, set, refl, sym, ◌∙◌, ap, subst}
+use Rattle.std.proofs.Common.{◌≡◌, ◌≢◌, ℕ, ◌+◌, ◌-◌, ◌<◌, Bool, true, false, not, ◌&&◌, if◌then◌else◌, Option, Some, None, List, [], ◌∷◌, ◌++◌, length, set, refl, sym, ◌∙◌, ap, subst, arith}
 use Rattle.std.specs.Prelude.{IsSomeAnd, IsTrue, OnErr, OnOk, Result, Ok, Err, is_some, slice_get}
 use Rattle.std.proofs.lemmas.Bool.{and_parts}
 use Rattle.std.proofs.lemmas.List.{length-replicate}
@@ -37,6 +37,8 @@ use Rattle.range_core.proofs.FetchTruth.{refused_truth}
 use Rattle.range_core.proofs.LayLemmas.{stored_true}
 use Rattle.range_core.proofs.StoreTruth.{AreStorable, if_met, if_unmet, storable, stored_state}
 use Rattle.range_core.proofs.ZeroLemmas.{either_zero, zeroed_keeps, zeros_over}
+use Rattle.range_core.proofs.FoundLemmas.{found_met, page-found}
+use Rattle.range_core.specs.Happened.{keeps_page}
 
 untrue : (t : Bool) → not t ≡ true → t ≡ false
 untrue true e = absurd (cc)
@@ -130,7 +132,15 @@ module _ (opening now : RangeView) (history : List Entry) (stakes : List RangeSt
       let T : ℕ → Type 0 = λ n. RangeTruth opening (after_bytes (zeroed (run_between n from to)) now by (run_between n from to)) (history ++ e ∷ []) (set stakes number (Some claims, made ++ e ∷ [])) in
       subst T (sym same)
       (bytes_truth opening now history e stakes number claims made (zeroed run) by run t here folio.cached folio.blocks.low (zeroed_keeps run)
-      (record { caller_is = refl; failed = refl; lent = refl; changed = refl; stamps = refl; sample = tt })
+      (record {
+        caller_is = refl;
+        failed = refl;
+        lent = refl;
+        changed = refl;
+        stamps = refl;
+        sample = tt;
+        found = found_met now run (λ b s. keeps_page s.away) met_blocks (omega (arith, folio.blocks.low, first)) (λ k c l at. page-found (run.first + k) c.away (blocks k c l at).0);
+      })
       (record {
         content = λ b x out. if_unmet (is_met size from to b) (overlaid size from to (zeros_of run) b x) x (met-outside run met_blocks b out);
         state = λ b x out. if_unmet (is_met size from to b && not (is_zero_already x)) (record x { dirty = true }) x (unmet_state (is_met size from to b) (not (is_zero_already x)) (met-outside run met_blocks b out));

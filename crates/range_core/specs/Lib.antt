@@ -19,7 +19,9 @@ pub mod EntryStamps
 pub mod Events
 pub mod Fetches
 pub mod Fills
+pub mod Happened
 pub mod Kinds
+pub mod Lasting
 pub mod Lends
 pub mod Loans
 pub mod Looks
@@ -49,6 +51,7 @@ pub mod Stamps
 pub mod Stores
 pub mod Through
 pub mod Tried
+pub mod TriedHistories
 pub mod TriedRefusals
 pub mod Wiping
 pub mod Writebacks

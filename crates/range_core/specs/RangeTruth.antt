@@ -10,6 +10,7 @@ use Rattle.range_core.specs.BlockStates.{state_of, states_replayed}
 use Rattle.range_core.specs.BlockTruth.{IsTrueAt}
 use Rattle.range_core.specs.EntryCounts.{changes, failures, lendings, one_where}
 use Rattle.range_core.specs.EntryStamps.{stamps_in}
+use Rattle.range_core.specs.Happened.{HasHappened}
 use Rattle.range_core.specs.Kinds.{is_delalloc, is_unwritten}
 use Rattle.range_core.specs.Lookups.{GivesPresent}
 use Rattle.range_core.specs.RangeView.{RangeView}
@@ -76,3 +77,4 @@ pub record RangeTruth (opening now : RangeView) (history : List Entry) (stakes :
   pub cookie_has_headroom : max now.cookie WORN + total pending now.cells ≤ WORN + 65536
   pub dax_is_uncached : now.mode ≡ Dax → All IsUncached now.cells
   pub callers_are_apart : (caller : ℕ) → caller < 2 ^ 32 → IsApart caller history stakes
+  pub has_happened : HasHappened opening history

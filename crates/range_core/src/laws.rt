@@ -1,9 +1,11 @@
 //! What the range truth says of loans, and the definitions tried on histories that can be checked by hand. Each law is a
 //! function that does nothing.
 ghost use Rattle.range_core.specs.Conversions.{OnlyWritesMap};
+ghost use Rattle.range_core.specs.Lasting.{MappedWasWritten, SectorsLast};
 ghost use Rattle.range_core.specs.Loans.{LoanIsClaimed, OthersStayClaimed, ReturnFreesClaim};
 ghost use Rattle.range_core.specs.Quiet.{RefusedIsQuiet};
 ghost use Rattle.range_core.specs.StampedChanges.{OnlyStampsChange};
+ghost use Rattle.range_core.specs.TriedHistories.{NothingAwayIsMet, OnlyLentComesBack, ReadCanHappen, RefusalsSayNothing, SectorsAreTakenOnce, StatesHinder, WriteCanHappen};
 ghost use Rattle.range_core.specs.TriedRefusals.{StaleComesFirst, AwayComesBeforeCold, WritebackHindersNoStore, WholeBlocksAreNotCold, SettledIsNotLent, DirtyIsNotReadDirectly, WornChangesNoKind, DirectLendsAreRefusedInOrder, PutsAreRefusedInOrder};
 ghost use Rattle.range_core.specs.Tried.{StoreLeavesZerosAround, WritebackMaps, FailedWritebackMakesDirty, StoreMeanwhileStaysDirty, WipeLeavesAHole, StoreStampsEachBlock, FailedWriteLandsAPrefix, FailedWriteLeavesUnwritten, FailedReadMisses, PutLeavesZerosAround};
 
@@ -93,4 +95,30 @@ pub fn only_what_hinders_refuses()
     ensures whole { WholeBlocksAreNotCold }
     ensures settled { SettledIsNotLent }
     ensures dirty { DirtyIsNotReadDirectly }
+{}
+
+/// Where a block is mapped after a history that can have happened, from a clean block at home, it was mapped at first and
+/// never wiped, or a call that did its part wrote to it since it was wiped last.
+pub fn mapped_was_written()
+    ensures { MappedWasWritten }
+{}
+
+/// A block that has a sector keeps it, and stays mapped where it was, until it is wiped.
+pub fn sectors_last()
+    ensures { SectorsLast }
+{}
+
+/// Histories in which each entry found the block as those before it left it.
+pub fn lawful_can_happen()
+    ensures write { WriteCanHappen }
+    ensures read { ReadCanHappen }
+    ensures refused { RefusalsSayNothing }
+{}
+
+/// Histories in which one did not.
+pub fn unlawful_cannot_happen()
+    ensures lent { OnlyLentComesBack }
+    ensures away { NothingAwayIsMet }
+    ensures taken { SectorsAreTakenOnce }
+    ensures states { StatesHinder }
 {}

@@ -1,7 +1,7 @@
 //! Bytes are copied out of the page cache.
 ghost use Rattle.std.specs.Prelude.{◌≡◌, ◌+◌, ◌-◌, ◌≤◌, vec_len, None, IfErr, OnErr, OnOk, IsSomeAnd, length, unwrap_or};
 ghost use Rattle.iov_iter.specs.IovView.{written_on};
-ghost use Rattle.range_core.specs.ByteRuns.{HasNext, IsByteRun, IsRunIn, after_bytes, part_bytes, run_bytes};
+ghost use Rattle.range_core.specs.ByteRuns.{HasNext, IsByteRun, IsRunIn, after_bytes, part_bytes, run_between, run_bytes};
 ghost use Rattle.range_core.specs.Paging.{HavePages, bytes_of, cached_at};
 
 use super::Range;
@@ -114,6 +114,7 @@ impl Range {
         ensures nothing { OnErr result (iov.new ≡ iov.old) }
         ensures state { OnOk result (self.new ≡ after_fetch self.old by from to) }
         ensures bytes { OnOk result (iov.new ≡ written_on (fetched self.new from to) iov.old) }
+        ensures met { IsByteRun (run_between self.old.geometry.block_size from to) }
     {
         let run = byte_run(&self.geometry, from, to);
         if let Some(fault) = self.fetch_fault(run) {

@@ -29,7 +29,7 @@ returns c s =
       done = record { change = refl; value = c.drop_clean.ensures.state; claims_are = refl; count = c.drop_clean.ensures.count; entry_is = refl };
       holds = subst T (sym c.drop_clean.ensures.state)
           (paged_truth s.opening was cells s.history entry s.stakes s.number claims s.made s.stands.holds s.stands.here
-          (record { content = λ b x. refl; state = λ b x. refl; failed = refl; lent = refl; changed = refl; stamps = refl })
+          (record { content = λ b x. refl; state = λ b x. refl; failed = refl; lent = refl; changed = refl; stamps = refl; found = λ b s. refl })
           tt refl
           (length-on_each drops 0 low run.blocks was.cells)
           (map-on_each drops (λ (x : Cell). x.kind) (λ _. dropped-kind) 0 low run.blocks was.cells)

@@ -31,5 +31,5 @@ returns c s =
         bytes = fetch_gives s.opening c.args.value.now c.fetch.new.self s.history s.stakes s.number claims s.made x.by x.from x.to s.stands.holds s.stands.here s.is_ready.bytes answer x.iov.now c.fetch.new.iov e.made e.state e.bytes;
         entry_is = refl;
       };
-      holds = fetch_keeps s.opening c.args.value.now c.fetch.new.self s.history s.stakes s.number claims s.made x.by x.from x.to s.stands.holds s.stands.here s.is_ready.bytes answer e.made e.unchanged e.state;
+      holds = fetch_keeps s.opening c.args.value.now c.fetch.new.self s.history s.stakes s.number claims s.made x.by x.from x.to s.stands.holds s.stands.here s.is_ready.bytes e.met answer e.made e.unchanged e.state;
     }

@@ -19,7 +19,7 @@ returns c s =
       entry = entry;
       done = record { change = refl; value = refl; claims_are = refl; sample_is = is; entry_is = refl };
       holds = quiet_truth s.opening was s.history entry s.stakes s.number claims s.made s.stands.holds s.stands.here
-          (record { content = λ b x. refl; state = λ b x. refl; failed = refl; lent = refl; changed = refl; stamps = refl })
+          (record { content = λ b x. refl; state = λ b x. refl; failed = refl; lent = refl; changed = refl; stamps = refl; found = λ b s. refl })
           (present_sample was look.block look.most sample (omega (arith, s.is_ready.low, s.stands.holds.same_run.first)) is)
           refl;
     }
