@@ -203,11 +203,20 @@ quiet_truth opening now history e stakes number claims made t here q gives by =
     subst C (sym (same i was c there at)) (subst X (sym (q.content b content)) (true-restaked size b was content stakes others (same_set stakes number claims claims made _ here refl) here_true)))
     (record { caller = refl; spare = refl; main = refl }) by
 
+-- an entry changes no content, raises no count and leaves no stamp
+pub record LeavesContents (size : ℕ) (e : Entry) : Type 0 where
+  pub content : (b : ℕ) (x : Content) → content_after size b x e ≡ x
+  pub failed : failures e ≡ 0
+  pub lent : lendings e ≡ 0
+  pub changed : changes e ≡ 0
+  pub stamps : stamps_of size e ≡ []
+  pub found : (b : ℕ) (s : BlockState) → fits_by size b e s ≡ true
+
 -- where an entry leaves everything but pages as it was, the truth holds of blocks that are as true with the pages as they are
 pub paged_truth : (opening now : RangeView) (cells : List Cell) (history : List Entry) (e : Entry) (stakes : List RangeStake) (number : ℕ) (claims : ClaimsView) (made : List Entry) → RangeTruth opening now history stakes
-    → get_elem? stakes number ≡ some (Some claims, made) → IsQuiet opening.geometry.block_size e → GivesPresent (record now { cells = cells }) e → e.caller ≡ claims.caller
+    → get_elem? stakes number ≡ some (Some claims, made) → LeavesContents opening.geometry.block_size e → GivesPresent (record now { cells = cells }) e → e.caller ≡ claims.caller
     → length cells ≡ length now.cells → kinds_of cells ≡ kinds_of now.cells → total pending cells ≡ total pending now.cells → (All IsUncached now.cells → All IsUncached cells)
-    → ((i : ℕ) (was c : Cell) → slice_get now.cells i ≡ Some was → slice_get cells i ≡ Some c → state_of c ≡ state_of was)
+    → ((i : ℕ) (was c : Cell) → slice_get now.cells i ≡ Some was → slice_get cells i ≡ Some c → state_of c ≡ state_after opening.geometry.block_size (opening.first + i) (state_of was) e)
     → ((i : ℕ) (was c : Cell) (b : ℕ) (content : Content) → slice_get now.cells i ≡ Some was → slice_get cells i ≡ Some c → IsTrueAt opening.geometry.block_size b was content stakes → IsTrueAt opening.geometry.block_size b c content stakes)
     → RangeTruth opening (record now { cells = cells }) (history ++ e ∷ []) (set stakes number (Some claims, made ++ e ∷ []))
 paged_truth opening now cells history e stakes number claims made t here q gives by many kinds pends uncached states blocks =
@@ -215,7 +224,7 @@ paged_truth opening now cells history e stakes number claims made t here q gives
     (record {
       same_run = record { geometry = refl; mode = refl; first = refl; blocks = many; pool = refl };
       space = space_by_kinds opening.geometry.block_size now.cells cells now.space kinds t.pool_claims_sectors;
-      states = λ i was c there at. states i was c there at ∙ sym (q.state (opening.first + i) (state_of was));
+      states = states;
       errors = let f = q.failed in let p = t.errors_counted in omega arith;
       tickets = quiet_tickets opening now history e stakes t q.lent;
       cookie = let f = q.changed in omega arith;

@@ -3,7 +3,7 @@ use Rattle.std.proofs.Common.{◌≡◌, ℕ, Bool, true, false, ◌&&◌, not, 
 use Rattle.iob_base.specs.declared.stamp.Op.TheVariants.{Read, Write}
 use Rattle.io_model.specs.declared.file.Kind.{Kind}
 use Rattle.io_model.specs.declared.file.Kind.TheVariants.{Delalloc}
-use Rattle.range_core.specs.BlockStates.{BlockState, at_home_again, becomes_hole, directly_back, is_zero_already, lent_clean, lent_for, put_through, state_by, taken_by, with_space, written_back}
+use Rattle.range_core.specs.BlockStates.{BlockState, at_home_again, becomes_hole, directly_back, is_zero_already, lent_clean, lent_for, put_through, state_by, taken_by, with_space, written_back, becomes_dirty, lent_directly, read_back, becomes_uptodate, without_page}
 use Rattle.range_core.specs.Conversions.{OnlyWritesMap, writes_out}
 use Rattle.range_core.specs.Kinds.{is_delalloc, is_mapped}
 use Rattle.range_core.specs.Spots.{in_run, is_met}
@@ -12,6 +12,7 @@ use Rattle.range_core.specs.declared.entry.Event.TheVariants.{TakeSample, Reserv
 use Rattle.range_core.specs.declared.entry.Outcome.{Outcome}
 use Rattle.range_core.specs.declared.entry.Outcome.TheVariants.{Refused, Sampled, Counted, Took, Lending, Finished}
 use Rattle.range_core.specs.declared.lending.Lender.TheVariants.{Reading, Direct}
+use Rattle.std.specs.Prelude.{is_some}
 
 -- no block both is and is not mapped
 never : (k : Kind) (t : Bool) → is_mapped k ≡ false → is_mapped k ≡ true → t ≡ true
@@ -25,6 +26,10 @@ unmapped_if false x s e was = was
 unmapped_space : (taken : Option ℕ) (s : BlockState) → is_mapped s.kind ≡ false → is_mapped (with_space taken s).kind ≡ false
 unmapped_space None s was = was
 unmapped_space (Some d) s was = refl
+
+unmapped_read : (failed : Bool) (s : BlockState) → is_mapped s.kind ≡ false → is_mapped (read_back failed s).kind ≡ false
+unmapped_read true s was = was
+unmapped_read false s was = was
 
 came_back : (met failed : Bool) (s : BlockState) → is_mapped s.kind ≡ false → is_mapped (if met then written_back failed s else s).kind ≡ true → (met && not failed) ≡ true
 came_back true true s was now = never s.kind false was now
@@ -66,7 +71,12 @@ maps size b s (Preallocate block n) (Counted m) was now = never _ _ was now
 maps size b s (Preallocate block n) (Took t) was now = never _ _ (unmapped_space (taken_by b t) s was) now
 maps size b s (Preallocate block n) (Lending t m) was now = never _ _ was now
 maps size b s (Preallocate block n) Finished was now = never _ _ was now
-maps size b s (Fetch a0 a1 a2) o was now = never _ _ was now
+maps size b s (Fetch by from to) (Refused f) was now = never _ _ was now
+maps size b s (Fetch by from to) (Sampled g) was now = never _ _ was now
+maps size b s (Fetch by from to) (Counted m) was now = never _ _ was now
+maps size b s (Fetch by from to) (Took t) was now = never _ _ was now
+maps size b s (Fetch by from to) (Lending t m) was now = never _ _ was now
+maps size b s (Fetch by from to) Finished was now = never _ _ (unmapped_if (is_met size from to b) (becomes_uptodate s) s was was) now
 maps size b s (LendRead block n) (Refused f) was now = never _ _ was now
 maps size b s (LendRead block n) (Sampled g) was now = never _ _ was now
 maps size b s (LendRead block n) (Counted m) was now = never _ _ was now
@@ -78,19 +88,19 @@ maps size b s (FillBack ticket block n done) (Sampled g) was now = never _ _ was
 maps size b s (FillBack ticket block n done) (Counted m) was now = never _ _ was now
 maps size b s (FillBack ticket block n done) (Took t) was now = never _ _ was now
 maps size b s (FillBack ticket block n done) (Lending t m) was now = never _ _ was now
-maps size b s (FillBack ticket block n done) Finished was now = never _ _ (unmapped_if (in_run block n b) (at_home_again s) s was was) now
+maps size b s (FillBack ticket block n done) Finished was now = never _ _ (unmapped_if (in_run block n b) (read_back done.failed s) s (unmapped_read done.failed s was) was) now
 maps size b s (Store by seen from to bytes) (Refused f) was now = never _ _ was now
 maps size b s (Store by seen from to bytes) (Sampled g) was now = never _ _ was now
 maps size b s (Store by seen from to bytes) (Counted m) was now = never _ _ was now
 maps size b s (Store by seen from to bytes) (Took t) was now = never _ _ was now
 maps size b s (Store by seen from to bytes) (Lending t m) was now = never _ _ was now
-maps size b s (Store by seen from to bytes) Finished was now = never _ _ (unmapped_if (is_met size from to b) (record s { dirty = true }) s was was) now
+maps size b s (Store by seen from to bytes) Finished was now = never _ _ (unmapped_if (is_met size from to b) (becomes_dirty s) s was was) now
 maps size b s (StoreZeros by seen from to) (Refused f) was now = never _ _ was now
 maps size b s (StoreZeros by seen from to) (Sampled g) was now = never _ _ was now
 maps size b s (StoreZeros by seen from to) (Counted m) was now = never _ _ was now
 maps size b s (StoreZeros by seen from to) (Took t) was now = never _ _ was now
 maps size b s (StoreZeros by seen from to) (Lending t m) was now = never _ _ was now
-maps size b s (StoreZeros by seen from to) Finished was now = never _ _ (unmapped_if (is_met size from to b && not (is_zero_already s)) (record s { dirty = true }) s was was) now
+maps size b s (StoreZeros by seen from to) Finished was now = never _ _ (unmapped_if (is_met size from to b && not (is_zero_already s)) (becomes_dirty s) s was was) now
 maps size b s (LendWriteback block n) (Refused f) was now = never _ _ was now
 maps size b s (LendWriteback block n) (Sampled g) was now = never _ _ was now
 maps size b s (LendWriteback block n) (Counted m) was now = never _ _ was now
@@ -103,12 +113,17 @@ maps size b s (WrittenBack ticket block kind n done) (Counted m) was now = came_
 maps size b s (WrittenBack ticket block kind n done) (Took t) was now = never _ _ was now
 maps size b s (WrittenBack ticket block kind n done) (Lending t m) was now = never _ _ was now
 maps size b s (WrittenBack ticket block kind n done) Finished was now = never _ _ was now
-maps size b s (DropClean a0 a1) o was now = never _ _ was now
+maps size b s (DropClean block n) (Refused f) was now = never _ _ was now
+maps size b s (DropClean block n) (Sampled g) was now = never _ _ was now
+maps size b s (DropClean block n) (Counted m) was now = never _ _ (unmapped_if (in_run block n b && (not s.dirty && not (is_some s.away))) (without_page s) s was was) now
+maps size b s (DropClean block n) (Took t) was now = never _ _ was now
+maps size b s (DropClean block n) (Lending t m) was now = never _ _ was now
+maps size b s (DropClean block n) Finished was now = never _ _ was now
 maps size b s (LendDirect by seen op block n) (Refused f) was now = never _ _ was now
 maps size b s (LendDirect by seen op block n) (Sampled g) was now = never _ _ was now
 maps size b s (LendDirect by seen op block n) (Counted m) was now = never _ _ was now
 maps size b s (LendDirect by seen op block n) (Took t) was now = never _ _ was now
-maps size b s (LendDirect by seen op block n) (Lending t m) was now = never _ _ (unmapped_if (in_run block n b) (lent_for (Direct by op) t s) s was was) now
+maps size b s (LendDirect by seen op block n) (Lending t m) was now = never _ _ (unmapped_if (in_run block n b) (lent_directly by op t s) s was was) now
 maps size b s (LendDirect by seen op block n) Finished was now = never _ _ was now
 maps size b s (DirectBack by Read ticket block kind pages done) (Refused f) was now = never _ _ was now
 maps size b s (DirectBack by Read ticket block kind pages done) (Sampled g) was now = never _ _ was now
@@ -122,7 +137,12 @@ maps size b s (DirectBack by Write ticket block kind pages done) (Counted m) was
 maps size b s (DirectBack by Write ticket block kind pages done) (Took t) was now = never _ _ was now
 maps size b s (DirectBack by Write ticket block kind pages done) (Lending t m) was now = never _ _ was now
 maps size b s (DirectBack by Write ticket block kind pages done) Finished was now = directly (in_run block (length pages) b) done.failed s was now
-maps size b s (DirectNow a0 a1 a2) o was now = never _ _ was now
+maps size b s (DirectNow by block most) (Refused f) was now = never _ _ was now
+maps size b s (DirectNow by block most) (Sampled g) was now = never _ _ was now
+maps size b s (DirectNow by block most) (Counted m) was now = never _ _ (unmapped_if (in_run block m b && is_mapped s.kind) (without_page s) s was was) now
+maps size b s (DirectNow by block most) (Took t) was now = never _ _ was now
+maps size b s (DirectNow by block most) (Lending t m) was now = never _ _ was now
+maps size b s (DirectNow by block most) Finished was now = never _ _ was now
 maps size b s (Wipe by block n) (Refused f) was now = never _ _ was now
 maps size b s (Wipe by block n) (Sampled g) was now = never _ _ was now
 maps size b s (Wipe by block n) (Counted m) was now = never _ _ (unmapped_if (in_run block n b) (becomes_hole s) s refl was) now

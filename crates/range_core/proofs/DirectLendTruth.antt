@@ -15,7 +15,7 @@ use Rattle.io_model.specs.declared.file.Kind.{Kind}
 use Rattle.io_model.specs.declared.file.Kind.TheVariants.{Hole}
 use Rattle.turn_cell.specs.Laws.{Advanced}
 use Rattle.turn_cell.specs.Stakes.{Begins}
-use Rattle.range_core.specs.BlockStates.{lent_for, state_of}
+use Rattle.range_core.specs.BlockStates.{lent_directly, state_of}
 use Rattle.range_core.specs.BlockTruth.{HomeContent, IsHomeContent, IsWholePage}
 use Rattle.range_core.specs.ClaimsView.{ClaimsView}
 use Rattle.range_core.specs.DirectLends.{CanLendDirect, ClaimsAnswer, GoesOut, ReadsZeros, ReadyToLend, TurnedToLend, after_lend_direct, away_direct, direct_answer, direct_lent, direct_loan, goes_out, lend_entry, lend_outcome, pages_in, zeroed, zeros_given}
@@ -159,7 +159,7 @@ module _ (opening now : RangeView) (history : List Entry) (stakes : List RangeSt
         cells = ap (λ l. on_each f 0 l n now.cells) (sym places);
         outside = λ b outside. record {
           content = λ x. refl;
-          state = λ s. ap (λ u. if u then lent_for (Direct by op) now.tickets s else s) outside;
+          state = λ s. ap (λ u. if u then lent_directly by op now.tickets s else s) outside;
           claims = λ c x.
               unnamed_true size b c x stakes others claims left change (ap (names_block b) can.free)
               (ap (names_block b) held ∙ ap (λ m. in_run h.lent.value.block m b) length_is ∙ ap (λ m. in_run m n b) block_is ∙ outside);
@@ -169,7 +169,7 @@ module _ (opening now : RangeView) (history : List Entry) (stakes : List RangeSt
             let fresh = free.each k was l here_at in
             let p : Page = get_or pages k (record { number = 0; bytes = [] }) in
             record {
-              state = sym (ap (λ u. if u then lent_for (Direct by op) now.tickets (state_of was) else state_of was) (in_run-true block n (block + k) (omega arith) (omega arith)));
+              state = sym (ap (λ u. if u then lent_directly by op now.tickets (state_of was) else state_of was) (in_run-true block n (block + k) (omega arith) (omega arith)));
               holds =
                   lent_true size (block + k) was content by op now.tickets p h stakes others claims left change can.free held (claims_block left hold k was l here_at) fresh.home fresh.clean
                   (ap has_space fresh.kind ∙ space-after seen.extent.kind _ ∙ out_has_space op seen.extent.kind can.takes out)

@@ -3,7 +3,7 @@ use Rattle.std.proofs.Common.{◌≡◌, ℕ, Bool, true, false, not, ◌&&◌, 
 use Rattle.std.specs.Prelude.{is_none, is_some}
 use Rattle.std.proofs.lemmas.Bool.{and_parts}
 use Rattle.io_model.specs.Contents.{Content}
-use Rattle.range_core.specs.BlockStates.{state_of}
+use Rattle.range_core.specs.BlockStates.{state_of, without_page}
 use Rattle.range_core.specs.BlockTruth.{FitsAway, HomeContent, IsHomeContent, IsTrueAt, is_gone}
 use Rattle.range_core.specs.Cells.{IsPlaced}
 use Rattle.range_core.specs.Drops.{is_droppable, without_clean_page}
@@ -11,6 +11,7 @@ use Rattle.range_core.specs.RangeTruth.{IsUncached, pending}
 use Rattle.range_core.specs.Stakes.{RangeStake, held_by}
 use Rattle.range_core.specs.declared.cell.Cell.{Cell}
 use Rattle.range_core.specs.declared.lending.Away.{Away}
+use Rattle.iob_base.specs.declared.sector.Page.{Page}
 
 -- a block without its page
 abbrev pub bare : Cell → Cell
@@ -27,8 +28,16 @@ either_way P c kept bared = at (is_droppable c) bared
 pub dropped-placed : (size : ℕ) (c : Cell) → IsPlaced size c → IsPlaced size (without_clean_page c)
 dropped-placed size c h = either_way (IsPlaced size) c h (λ _. h)
 
-pub dropped-state : (c : Cell) → state_of (without_clean_page c) ≡ state_of c
-dropped-state c = either_way (λ d. state_of d ≡ state_of c) c refl (λ _. refl)
+-- a block of the run is in the state of one that dropped its page where it is clean and at home
+pub dropped-state : (c : Cell) (t : Bool) → t ≡ true → state_of (without_clean_page c) ≡ (if t && (not c.dirty && not (is_some c.away)) then without_page (state_of c) else state_of c)
+dropped-state c true e = at c.dirty c.away c.page
+  where
+    at : (d : Bool) (a : Option Away) (p : Option Page) → state_of (without_clean_page (record c { dirty = d; away = a; page = p })) ≡ (if not d && not (is_some a) then without_page (state_of (record c { dirty = d; away = a; page = p })) else state_of (record c { dirty = d; away = a; page = p }))
+    at true a p = refl
+    at false (Some a) p = refl
+    at false None None = refl
+    at false None (Some p) = refl
+dropped-state c false e = absurd (cc)
 
 pub dropped-kind : (c : Cell) → (without_clean_page c).kind ≡ c.kind
 dropped-kind c = either_way (λ d. d.kind ≡ c.kind) c refl (λ _. refl)

@@ -1,6 +1,6 @@
 -- The range truth after a fetch, and the bytes that it gives.
 use Rattle.std.proofs.Common.{◌≡◌, ℕ, ◌+◌, ◌-◌, ◌<◌, ◌≤◌, false, Option, Some, None, List, [], ◌∷◌, ◌++◌, length, get_or, set, refl, sym, ◌∙◌, ap, subst, arith}
-use Rattle.std.specs.Prelude.{IfSome, IsSomeAnd, OnErr, OnOk, Result, Ok, Err, slice_get}
+use Rattle.std.specs.Prelude.{IfSome, IsSomeAnd, OnErr, OnOk, Result, Ok, Err, slice_get, ◌&&◌, not}
 use Rattle.std.proofs.lemmas.Option.{slice_get-get_or}
 use mathlib.Core.Option.{some}
 use lib.ListN.{get_elem?}
@@ -8,7 +8,7 @@ use Rattle.iob_base.specs.declared.sector.Page.{Page}
 use Rattle.iob_base.specs.declared.stamp.Tag.{Tag}
 use Rattle.io_model.specs.Contents.{Content}
 use Rattle.iov_iter.specs.IovView.{IovView, written_on}
-use Rattle.range_core.specs.BlockStates.{state_of}
+use Rattle.range_core.specs.BlockStates.{state_of, becomes_uptodate}
 use Rattle.range_core.specs.BlockTruth.{IsTrueAt, IsWholePage}
 use Rattle.range_core.specs.ByteRuns.{after_bytes, run_between, run_bytes, IsInFolio, IsByteRun}
 use Rattle.range_core.specs.ClaimsView.{ClaimsView}
@@ -30,15 +30,18 @@ use Rattle.range_core.specs.declared.fault.EventFault.TheVariants.{Cold}
 use Rattle.range_core.specs.declared.parts.ByteRun.{ByteRun}
 use Rattle.range_core.proofs.AfterBytes.{bytes_truth}
 use Rattle.range_core.proofs.AfterEntry.{quiet_truth}
-use Rattle.range_core.proofs.ByteRunLemmas.{gathered-same}
+use Rattle.range_core.proofs.ByteRunLemmas.{gathered-same, met-inside, met-outside}
 use Rattle.range_core.proofs.EachLemmas.{in_run-there, is_there}
 use Rattle.range_core.proofs.FetchLemmas.{cached-block}
 use Rattle.range_core.proofs.FillLemmas.{filled_true}
 use Rattle.range_core.proofs.PagingLemmas.{either_filled, filled-whole, filled_keeps}
 use Rattle.range_core.proofs.RefusedLemmas.{refused_is_quiet}
 use Rattle.range_core.proofs.StopLemmas.{neither, none_stops, run_of-at, where_true-not}
-use Rattle.range_core.specs.Happened.{keeps_page}
-use Rattle.range_core.proofs.FoundLemmas.{found_met, page-found}
+use Rattle.range_core.specs.Happened.{keeps_page, is_cold_in}
+use Rattle.range_core.proofs.FoundLemmas.{found_met, page-found, warm-found}
+use Rattle.range_core.proofs.LawfulLemmas.{both}
+use Rattle.range_core.specs.Spots.{is_met}
+use Rattle.range_core.proofs.RunLemmas.{if_false, if_true}
 
 -- the truth after an event that was refused
 pub refused_truth : (opening now : RangeView) (history : List Entry) (stakes : List RangeStake) (number : ℕ) (claims : ClaimsView) (made : List Entry) (event : Event) (fault : EventFault) → RangeTruth opening now history stakes
@@ -115,6 +118,13 @@ module _ (opening now : RangeView) (history : List Entry) (stakes : List RangeSt
       cached-block run now.first (on_each (fill_each run) 0 (run.first - now.first) run.blocks now.cells) (omega arith) k (fill_each run k x.item) there
       ∙ has_bytes run.size (fill_each run k x.item).page (content_at opening history i) has after.uptodate_is_replay ∙ ap (content_at opening history) (sym place))
 
+filled-state : (size : ℕ) (c : Cell) → state_of (filled size c) ≡ becomes_uptodate (state_of c)
+filled-state size c = at c.page
+  where
+    at : (o : Option Page) → state_of (filled size (record c { page = o })) ≡ becomes_uptodate (state_of (record c { page = o }))
+    at None = refl
+    at (Some p) = refl
+
 -- the entry of a fetch that came about
 abbrev pub fetch_done : ClaimsView → Tag → ℕ → ℕ → Entry
 fetch_done claims by from to = record { caller = claims.caller; event = Fetch by from to; outcome = Finished }
@@ -135,11 +145,11 @@ fetched_truth opening now history stakes number claims made by from to t here by
     let T : ℕ → Type 0 = λ n. RangeTruth opening (after_bytes (fill_each (run_between n from to)) now by (run_between n from to)) (history ++ e ∷ []) (set stakes number (Some claims, made ++ e ∷ [])) in
     subst T (sym same)
     (bytes_truth opening now history e stakes number claims made (fill_each run) by run t here bytes.cached bytes.blocks.low (filled_keeps lacks_page size)
-    (record { caller_is = refl; failed = refl; lent = refl; changed = refl; stamps = refl; sample = tt; found = found_met now run (λ b s. keeps_page s.away) cut (omega (arith, bytes.blocks.low, t.same_run.first)) (λ k c l at. page-found (run.first + k) c.away (able k c l at).0) })
+    (record { caller_is = refl; failed = refl; lent = refl; changed = refl; stamps = refl; sample = tt; found = found_met now run (λ b s. keeps_page s.away && not (is_cold_in s)) cut (omega (arith, bytes.blocks.low, t.same_run.first)) (λ k c l at. both (keeps_page c.away) _ (page-found (run.first + k) c.away (able k c l at).0) (warm-found c (able k c l at).1)) })
     (record {
       content = λ b x out. refl;
-      state = λ b x out. refl;
-      becomes = λ k was l at. either_filled (λ d. state_of d ≡ state_of was) lacks_page size was (λ _. refl) (λ _. refl);
+      state = λ b x out. if_false (is_met size from to b) (becomes_uptodate x) x (met-outside run cut b out);
+      becomes = λ k was l at. filled-state size was ∙ sym (if_true (is_met size from to (run.first + k)) (becomes_uptodate (state_of was)) (state_of was) (met-inside run cut k l));
       holds = λ k was content l at h. filled_block opening now history stakes run t refl able bytes.blocks.low k was l at content h;
     }))
 

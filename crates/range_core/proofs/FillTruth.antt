@@ -1,6 +1,6 @@
 -- The turns that read blocks into the cache keep the truth.
 use Rattle.std.proofs.Common.{◌≡◌, ℕ, ◌+◌, ◌-◌, if◌then◌else◌, Some, None, Result, Ok, Err, IfOk, IfErr, OnOk, OnErr, List, [], ◌∷◌, ◌++◌, replicate, set, refl, sym, ◌∙◌, ap, subst, arith}
-use Rattle.std.specs.Prelude.{◌&&◌, ◌||◌, MatchResult, unwrap_or}
+use Rattle.std.specs.Prelude.{◌&&◌, ◌||◌, MatchResult, unwrap_or, is_none, is_some, not}
 use Rattle.std.proofs.lemmas.List.{get_or-replicate, length-replicate}
 use Rattle.std.proofs.lemmas.Option.{slice_get-get_or}
 use mathlib.Core.Option.{some}
@@ -38,9 +38,9 @@ use Rattle.range_core.proofs.LoanTurns.{loan_truth}
 use Rattle.range_core.proofs.LoanTruth.{clean_without_page, has_block, home_bytes}
 use Rattle.range_core.proofs.RefusedLemmas.{refused_is_quiet}
 use Rattle.range_core.proofs.SoundLemmas.{total-moved}
-use Rattle.range_core.proofs.FoundLemmas.{found_run, settled-found}
+use Rattle.range_core.proofs.FoundLemmas.{found_run}
 use Rattle.range_core.proofs.LawfulLemmas.{both}
-use Rattle.range_core.specs.Happened.{is_settled}
+use Rattle.range_core.specs.Happened.{is_cold_in}
 
 module _ (opening now : RangeView) (history : List Entry) (stakes : List RangeStake) (number : ℕ) (claims left : ClaimsView) (made : List Entry) (change : LendCold) where
   abbrev n : ℕ
@@ -77,8 +77,8 @@ module _ (opening now : RangeView) (history : List Entry) (stakes : List RangeSt
         stamps = refl;
         sample = tt;
         caller = refl;
-        found = found_run now change.block n (λ b s. is_mapped s.kind && is_settled s) (let low = may.lies.low in let first = t.same_run.first in omega arith)
-            (λ k c l at. let cold = run.cold k c l at in both (is_mapped c.kind) _ cold.mapped (settled-found c cold.home (clean_without_page opening.geometry.block_size _ c _ stakes (t.blocks _ c at) cold.page)));
+        found = found_run now change.block n (λ b s. is_cold_in s && not s.dirty) (let low = may.lies.low in let first = t.same_run.first in omega arith)
+            (λ k c l at. let cold = run.cold k c l at in both (is_cold_in (state_of c)) _ (both (is_mapped c.kind) _ cold.mapped (both (is_none c.away) (not (is_some c.page)) (ap is_none cold.home) (ap (λ o. not (is_some o)) cold.page))) (ap not (clean_without_page opening.geometry.block_size _ c _ stakes (t.blocks _ c at) cold.page)));
       })
       (λ k was content l at h.
       let size : ℕ = opening.geometry.block_size in

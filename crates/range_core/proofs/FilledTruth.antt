@@ -10,7 +10,7 @@ use Rattle.fault_device.specs.declared.lane.Done.{Done}
 use Rattle.iob_base.specs.declared.part.Part.{Part}
 use Rattle.io_model.specs.Contents.{Content}
 use Rattle.io_model.specs.Kinds.{device_number}
-use Rattle.range_core.specs.BlockStates.{at_home_again, state_of}
+use Rattle.range_core.specs.BlockStates.{read_back as state_back, state_of}
 use Rattle.range_core.specs.BlockTruth.{FitsLender, IsHomeContent, IsTrueAt}
 use Rattle.range_core.specs.Cells.{IsBlock}
 use Rattle.range_core.specs.ClaimsView.{ClaimsView, released}
@@ -67,7 +67,7 @@ filled_true size b was content lent back failed landed k h stakes others claims 
         true_returned size b was c content content h stakes others claims left seat held none named refl
         (home_placed size was c back (record { sector = refl; away = refl; number = refl; delalloc = refl }) home_block (mapped_space was.kind fits.0)) t.whole (is.landed_page (w refl) ∙ fits.1) (at_home c refl refl) (λ dirty. absurd (cc)) t
 
-filled_state : (u : Bool) (p : Part) (c : Cell) → state_of (filled_cell u (Some p) c) ≡ at_home_again (state_of c)
+filled_state : (u : Bool) (p : Part) (c : Cell) → state_of (filled_cell u (Some p) c) ≡ state_back u (state_of c)
 filled_state true p c = refl
 filled_state false p c = refl
 
@@ -88,7 +88,7 @@ filled_holds opening now history stakes number claims made back done truth here 
     return_truth opening now history stakes number claims made Reading Read back done entry fills now.log now.cookie now.errors truth here may
     (record {
       content = λ x y out. refl;
-      outside = λ x s out. ap (λ u. if u then at_home_again s else s) out;
+      outside = λ x s out. ap (λ u. if u then state_back done.failed s else s) out;
       failed = let e = truth.errors_counted in omega arith;
       lent = refl;
       changed = omega arith;
@@ -108,7 +108,7 @@ filled_holds opening now history stakes number claims made back done truth here 
     λ e. let less : nat_lt done.landed (length may.claim.lent.value.parts.items) ≡ false = sym may.is_return.failed ∙ e in let m = ltb-false _ _ less in let p = place.many in omega arith in
     let S : Option Part → Type 0 = λ o. ChangesBlock size (back.block + k) was (filled_cell done.failed o was) content entry (set stakes number (Some (released claims), made ++ entry ∷ [])) in
     subst S (sym at) (record {
-      state = filled_state done.failed q.part was ∙ sym (ap (λ u. if u then at_home_again (state_of was) else state_of was) met);
+      state = filled_state done.failed q.part was ∙ sym (ap (λ u. if u then state_back done.failed (state_of was) else state_of was) met);
       holds = filled_true size (back.block + k) was content b.part q.part done.failed done.landed k may.claim stakes _ claims (released claims) seat may.is_return.held refl
           (back_named opening now history stakes number claims made Reading Read back done entry fills now.log now.cookie now.errors truth here may (back.block + k) ∙ met) q.is all b.sector (lent_for k was content b) t;
     }))

@@ -1,6 +1,6 @@
 -- What an entry says that it found of the blocks of a run, of the blocks of a range.
 use Rattle.std.proofs.Common.{◌≡◌, ℕ, zero, suc, ◌+◌, ◌-◌, ◌<◌, ◌≤◌, ◌⊎◌, Bool, true, false, ◌&&◌, nat_eq, if◌then◌else◌, Option, Some, None, List, [], ◌∷◌, length, refl, sym, ◌∙◌, ap, subst, arith, inl, inr}
-use Rattle.std.specs.Prelude.{IsSomeAnd, not, nat_le, nat_lt, slice_get}
+use Rattle.std.specs.Prelude.{IsSomeAnd, not, nat_le, nat_lt, slice_get, is_none, is_some}
 use Rattle.std.proofs.lemmas.Bool.{eq-eqb, leb-false, ltb-false}
 use Rattle.iob_base.specs.DeviceBlock.{DeviceBlock}
 use Rattle.iob_base.specs.declared.stamp.Op.{Op}
@@ -9,13 +9,13 @@ use Rattle.io_model.specs.Kinds.{is_kind, kind_after}
 use Rattle.io_model.specs.declared.file.Kind.{Kind}
 use Rattle.range_core.specs.Attaching.{pairs_taken}
 use Rattle.range_core.specs.BlockStates.{BlockState, state_of, taken_by}
-use Rattle.range_core.specs.Happened.{is_bare, is_lendable, is_out, is_same_lender, is_same_op, is_settled, keeps_page, took_just}
+use Rattle.range_core.specs.Happened.{is_bare, is_lendable, is_out, is_same_lender, is_same_op, is_settled, keeps_page, took_just, is_cold_in}
 use Rattle.range_core.specs.Kinds.{has_space, is_mapped}
 use Rattle.range_core.specs.OnRun.{count_on}
 use Rattle.range_core.specs.Placing.{count_in}
 use Rattle.range_core.specs.RangeTruth.{IsUncached}
 use Rattle.range_core.specs.RangeView.{RangeView}
-use Rattle.range_core.specs.Refusals.{pageless_at}
+use Rattle.range_core.specs.Refusals.{pageless_at, is_cold}
 use Rattle.range_core.specs.Spots.{in_run, is_met}
 use Rattle.range_core.specs.declared.cell.Cell.{Cell}
 use Rattle.range_core.specs.declared.lending.Away.{Away}
@@ -29,6 +29,7 @@ use Rattle.range_core.proofs.DaxPutLemmas.{count-below}
 use Rattle.range_core.proofs.KindLemmas.{is_kind-same}
 use Rattle.range_core.proofs.LawfulLemmas.{both}
 use Rattle.range_core.proofs.PlaceLemmas.{number_of, taken-in_run, taken-out_of_run}
+use Rattle.iob_base.specs.declared.sector.Page.{Page}
 
 pub if_any : (t u : Bool) → u ≡ true → (if t then u else true) ≡ true
 if_any true u e = e
@@ -117,6 +118,20 @@ page-found b (Some away) e = at away.lender e
     at Reading e = absurd (cc)
     at Writeback e = refl
     at (Direct tag op) e = absurd (cc)
+
+-- what a state tells of cold is so of its block
+pub cold-state : (c : Cell) → is_cold_in (state_of c) ≡ is_cold c
+cold-state c = at c.page
+  where
+    at : (o : Option Page) → (is_mapped c.kind && (is_none c.away && not (is_some o))) ≡ (is_mapped c.kind && (is_none c.away && is_none o))
+    at None = refl
+    at (Some p) = refl
+
+pub warm-found : (c : Cell) → is_cold c ≡ false → not (is_cold_in (state_of c)) ≡ true
+warm-found c e = ap not (cold-state c ∙ e)
+
+pub part-found : (c : Cell) (t : Bool) → (t && is_cold c) ≡ false → not (t && is_cold_in (state_of c)) ≡ true
+part-found c t e = ap (λ u. not (t && u)) (cold-state c) ∙ ap not e
 
 -- of the blocks of a range, those that are picked in a run took a sector each, where there is one for each
 module _ (picks : Cell → Bool) (now : RangeView) (block n : ℕ) (sectors : List DeviceBlock) where

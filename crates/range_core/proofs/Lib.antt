@@ -53,6 +53,7 @@ pub mod PlaceSpace
 pub mod PlaceTruth
 pub mod PoolLemmas
 pub mod PromiseLemmas
+pub mod RefusedAlikeLemmas
 pub mod RefusedLemmas
 pub mod ReleaseLemmas
 pub mod ReserveTruth

@@ -17,7 +17,7 @@ use Rattle.io_model.specs.Kinds.{device_number, is_kind, mapped_number}
 use Rattle.io_model.specs.declared.file.Kind.{Kind}
 use Rattle.io_model.specs.declared.file.Kind.TheVariants.{Hole, Delalloc, Unwritten, Mapped}
 use Rattle.turn_cell.specs.Stakes.{total}
-use Rattle.range_core.specs.BlockStates.{state_of}
+use Rattle.range_core.specs.BlockStates.{state_of, without_page}
 use Rattle.range_core.specs.BlockTruth.{HomeContent, IsHomeContent, IsTrueAt, IsWholePage, is_gone}
 use Rattle.range_core.specs.Cells.{HasPlace, HasSector, IsPlaced}
 use Rattle.range_core.specs.DirectNow.{AreReady, IsReady, filled_page, is_clean_home, now_length, pages_filled, stored_bytes, without_mapped_page}
@@ -198,8 +198,13 @@ either_way P c kept bared = at (is_mapped c.kind)
 pub unmapped-placed : (size : ℕ) (c : Cell) → IsPlaced size c → IsPlaced size (without_mapped_page c)
 unmapped-placed size c h = either_way (IsPlaced size) c h h
 
-pub unmapped-state : (c : Cell) → state_of (without_mapped_page c) ≡ state_of c
-unmapped-state c = either_way (λ d. state_of d ≡ state_of c) c refl refl
+pub unmapped-state : (c : Cell) (t : Bool) → t ≡ true → state_of (without_mapped_page c) ≡ (if t && is_mapped c.kind then without_page (state_of c) else state_of c)
+unmapped-state c true e = at (is_mapped c.kind)
+  where
+    at : (m : Bool) → state_of (if m then record c { page = None } else c) ≡ (if m then without_page (state_of c) else state_of c)
+    at true = refl
+    at false = refl
+unmapped-state c false e = absurd (cc)
 
 pub unmapped-kind : (c : Cell) → (without_mapped_page c).kind ≡ c.kind
 unmapped-kind c = either_way (λ d. d.kind ≡ c.kind) c refl refl

@@ -1,6 +1,6 @@
 -- The truth after a read past the page cache, and what it gave.
 use Rattle.std.proofs.Common.{◌≡◌, ℕ, zero, suc, ◌+◌, ◌-◌, ◌<◌, ◌≤◌, Some, Ok, Err, List, [], ◌∷◌, ◌++◌, length, set, refl, sym, ◌∙◌, ap, subst, arith}
-use Rattle.std.specs.Prelude.{IfOk, OnErr, slice_get}
+use Rattle.std.specs.Prelude.{IfOk, OnErr, slice_get, ◌&&◌, if◌then◌else◌}
 use mathlib.Core.Option.{some}
 use lib.ListN.{get_elem?}
 use Rattle.iob_base.specs.Layout.{Layout}
@@ -19,7 +19,7 @@ use Rattle.range_core.specs.declared.cell.Cell.{Cell}
 use Rattle.range_core.specs.declared.entry.Entry.{Entry}
 use Rattle.range_core.specs.declared.entry.Event.TheVariants.{DirectNow}
 use Rattle.range_core.proofs.AfterEntry.{quiet_tickets, quiet_truth}
-use Rattle.range_core.proofs.AfterRun.{changed_truth, keeps_claims}
+use Rattle.range_core.proofs.AfterRun.{changed_truth, keeps_claims, in_run-true}
 use Rattle.range_core.proofs.NowLemmas.{filled-at, now_length-clean, now_length-within, stored-content, unmapped-kind, unmapped-pending, unmapped-state, unmapped-true}
 use Rattle.range_core.proofs.OnRunLemmas.{map-on_each, total-on_each}
 use Rattle.range_core.proofs.RefusedLemmas.{refused_is_quiet}
@@ -27,6 +27,9 @@ use Rattle.range_core.proofs.SampleLemmas.{samples_next, slice_get-drop}
 use Rattle.range_core.proofs.SpaceLemmas.{space_by_kinds}
 use Rattle.range_core.specs.Happened.{is_settled}
 use Rattle.range_core.proofs.FoundLemmas.{found_run, settled-found}
+use Rattle.range_core.specs.BlockStates.{without_page}
+use Rattle.range_core.specs.Spots.{in_run}
+use Rattle.range_core.specs.Kinds.{is_mapped}
 
 abbrev drops : ℕ → Cell → Cell
 drops _ c = without_mapped_page c
@@ -45,12 +48,12 @@ module _ (opening now : RangeView) (history : List Entry) (by : Tag) (b most : �
       (record {
         low = omega arith;
         cells = ap (λ f. on_each drops 0 (b - f) n now.cells) first;
-        outside = λ i out. record { content = λ x. refl; state = λ s. refl; claims = keeps_claims size i stakes number claims claims made (made ++ e ∷ []) here refl };
+        outside = λ i out. record { content = λ x. refl; state = λ s. ap (λ u. if u && is_mapped s.kind then without_page s else s) out; claims = keeps_claims size i stakes number claims claims made (made ++ e ∷ []) here refl };
         inside = λ k was content l at h.
             let place : slice_get now.cells (b - now.first + k) ≡ Some was = ap (λ f. slice_get now.cells (b - f + k)) first ∙ at in
             let is = now_length-clean (cells_from now b) most k was (omega arith) (slice_get-drop (b - now.first) k now.cells ∙ place) in
             record {
-              state = unmapped-state was;
+              state = unmapped-state was (in_run b n (b + k)) (in_run-true b n (b + k) (omega arith) (omega arith));
               holds = keeps_claims size (b + k) stakes number claims claims made (made ++ e ∷ []) here refl (without_mapped_page was) content (unmapped-true size (b + k) was content stakes is h);
             };
       })

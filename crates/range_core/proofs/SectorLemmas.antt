@@ -5,7 +5,7 @@ use Rattle.iob_base.specs.declared.stamp.Op.TheVariants.{Read, Write}
 use Rattle.io_model.specs.Kinds.{is_kind, kind_after}
 use Rattle.io_model.specs.declared.file.Kind.{Kind}
 use Rattle.io_model.specs.declared.file.Kind.TheVariants.{Hole, Delalloc, Unwritten, Mapped}
-use Rattle.range_core.specs.BlockStates.{BlockState, at_home_again, becomes_hole, directly_back, is_zero_already, lent_clean, lent_for, put_through, state_after, state_by, taken_by, with_space, written_back}
+use Rattle.range_core.specs.BlockStates.{BlockState, at_home_again, becomes_hole, directly_back, is_zero_already, lent_clean, lent_for, put_through, state_after, state_by, taken_by, with_space, written_back, becomes_dirty, becomes_uptodate, lent_directly, read_back, without_page}
 use Rattle.range_core.specs.Happened.{fits_by, found_by, lawful_from, took_just}
 use Rattle.range_core.specs.Kinds.{has_space, is_delalloc, is_hole, is_mapped, written_kind}
 use Rattle.range_core.specs.Lasting.{KeepsSector, SectorsLast, is_unwiped, wipes}
@@ -63,6 +63,10 @@ took_keeps : (t : Bool) (o : Option ℕ) (s : BlockState) → (t ≡ true → Ke
 took_keeps t None s none found = stays s.kind
 took_keeps t (Some d) s none found = none found
 
+read_keeps : (failed : Bool) (s : BlockState) → KeepsSector s.kind (read_back failed s).kind
+read_keeps true s = stays s.kind
+read_keeps false s = stays s.kind
+
 back_keeps : (failed : Bool) (s : BlockState) → has_space s.kind ≡ true → KeepsSector s.kind (written_back failed s).kind
 back_keeps true s space = stays s.kind
 back_keeps false s space = written_keeps s.kind space
@@ -101,7 +105,12 @@ keeps size b s (Preallocate block n) (Counted m) found kept space = absurd (cc)
 keeps size b s (Preallocate block n) (Took t) found kept space = took_keeps (in_run block n b && not (has_space s.kind)) (taken_by b t) s (λ u. let p = and_parts (in_run block n b) (not (has_space s.kind)) u in let e : not true ≡ true = ap not (sym space) ∙ p.1 in absurd (cc)) found
 keeps size b s (Preallocate block n) (Lending t m) found kept space = absurd (cc)
 keeps size b s (Preallocate block n) Finished found kept space = absurd (cc)
-keeps size b s (Fetch a0 a1 a2) o found kept space = stays s.kind
+keeps size b s (Fetch by from to) (Refused f) found kept space = stays s.kind
+keeps size b s (Fetch by from to) (Sampled g) found kept space = absurd (cc)
+keeps size b s (Fetch by from to) (Counted m) found kept space = absurd (cc)
+keeps size b s (Fetch by from to) (Took t) found kept space = absurd (cc)
+keeps size b s (Fetch by from to) (Lending t m) found kept space = absurd (cc)
+keeps size b s (Fetch by from to) Finished found kept space = if_keeps (is_met size from to b) (becomes_uptodate s) s (stays s.kind)
 keeps size b s (LendRead block n) (Refused f) found kept space = stays s.kind
 keeps size b s (LendRead block n) (Sampled g) found kept space = absurd (cc)
 keeps size b s (LendRead block n) (Counted m) found kept space = absurd (cc)
@@ -113,19 +122,19 @@ keeps size b s (FillBack ticket block n done) (Sampled g) found kept space = abs
 keeps size b s (FillBack ticket block n done) (Counted m) found kept space = absurd (cc)
 keeps size b s (FillBack ticket block n done) (Took t) found kept space = absurd (cc)
 keeps size b s (FillBack ticket block n done) (Lending t m) found kept space = absurd (cc)
-keeps size b s (FillBack ticket block n done) Finished found kept space = if_keeps (in_run block n b) (at_home_again s) s (stays s.kind)
+keeps size b s (FillBack ticket block n done) Finished found kept space = if_keeps (in_run block n b) (read_back done.failed s) s (read_keeps done.failed s)
 keeps size b s (Store by seen from to bytes) (Refused f) found kept space = stays s.kind
 keeps size b s (Store by seen from to bytes) (Sampled g) found kept space = absurd (cc)
 keeps size b s (Store by seen from to bytes) (Counted m) found kept space = absurd (cc)
 keeps size b s (Store by seen from to bytes) (Took t) found kept space = absurd (cc)
 keeps size b s (Store by seen from to bytes) (Lending t m) found kept space = absurd (cc)
-keeps size b s (Store by seen from to bytes) Finished found kept space = if_keeps (is_met size from to b) (record s { dirty = true }) s (stays s.kind)
+keeps size b s (Store by seen from to bytes) Finished found kept space = if_keeps (is_met size from to b) (becomes_dirty s) s (stays s.kind)
 keeps size b s (StoreZeros by seen from to) (Refused f) found kept space = stays s.kind
 keeps size b s (StoreZeros by seen from to) (Sampled g) found kept space = absurd (cc)
 keeps size b s (StoreZeros by seen from to) (Counted m) found kept space = absurd (cc)
 keeps size b s (StoreZeros by seen from to) (Took t) found kept space = absurd (cc)
 keeps size b s (StoreZeros by seen from to) (Lending t m) found kept space = absurd (cc)
-keeps size b s (StoreZeros by seen from to) Finished found kept space = if_keeps (is_met size from to b && not (is_zero_already s)) (record s { dirty = true }) s (stays s.kind)
+keeps size b s (StoreZeros by seen from to) Finished found kept space = if_keeps (is_met size from to b && not (is_zero_already s)) (becomes_dirty s) s (stays s.kind)
 keeps size b s (LendWriteback block n) (Refused f) found kept space = stays s.kind
 keeps size b s (LendWriteback block n) (Sampled g) found kept space = absurd (cc)
 keeps size b s (LendWriteback block n) (Counted m) found kept space = absurd (cc)
@@ -138,12 +147,17 @@ keeps size b s (WrittenBack ticket block kind n done) (Counted m) found kept spa
 keeps size b s (WrittenBack ticket block kind n done) (Took t) found kept space = absurd (cc)
 keeps size b s (WrittenBack ticket block kind n done) (Lending t m) found kept space = absurd (cc)
 keeps size b s (WrittenBack ticket block kind n done) Finished found kept space = absurd (cc)
-keeps size b s (DropClean a0 a1) o found kept space = stays s.kind
+keeps size b s (DropClean block n) (Refused f) found kept space = stays s.kind
+keeps size b s (DropClean block n) (Sampled g) found kept space = absurd (cc)
+keeps size b s (DropClean block n) (Counted m) found kept space = if_keeps (in_run block n b && (not s.dirty && not (is_some s.away))) (without_page s) s (stays s.kind)
+keeps size b s (DropClean block n) (Took t) found kept space = absurd (cc)
+keeps size b s (DropClean block n) (Lending t m) found kept space = absurd (cc)
+keeps size b s (DropClean block n) Finished found kept space = absurd (cc)
 keeps size b s (LendDirect by seen op block n) (Refused f) found kept space = stays s.kind
 keeps size b s (LendDirect by seen op block n) (Sampled g) found kept space = absurd (cc)
 keeps size b s (LendDirect by seen op block n) (Counted m) found kept space = absurd (cc)
 keeps size b s (LendDirect by seen op block n) (Took t) found kept space = absurd (cc)
-keeps size b s (LendDirect by seen op block n) (Lending t m) found kept space = if_keeps (in_run block n b) (lent_for (Direct by op) t s) s (stays s.kind)
+keeps size b s (LendDirect by seen op block n) (Lending t m) found kept space = if_keeps (in_run block n b) (lent_directly by op t s) s (stays s.kind)
 keeps size b s (LendDirect by seen op block n) Finished found kept space = stays s.kind
 keeps size b s (DirectBack by Read ticket block kind pages done) (Refused f) found kept space = stays s.kind
 keeps size b s (DirectBack by Read ticket block kind pages done) (Sampled g) found kept space = absurd (cc)
@@ -157,7 +171,12 @@ keeps size b s (DirectBack by Write ticket block kind pages done) (Counted m) fo
 keeps size b s (DirectBack by Write ticket block kind pages done) (Took t) found kept space = absurd (cc)
 keeps size b s (DirectBack by Write ticket block kind pages done) (Lending t m) found kept space = absurd (cc)
 keeps size b s (DirectBack by Write ticket block kind pages done) Finished found kept space = if_keeps (in_run block (length pages) b) (directly_back Write done.failed s) s (direct_keeps done.failed s space)
-keeps size b s (DirectNow a0 a1 a2) o found kept space = stays s.kind
+keeps size b s (DirectNow by block most) (Refused f) found kept space = stays s.kind
+keeps size b s (DirectNow by block most) (Sampled g) found kept space = absurd (cc)
+keeps size b s (DirectNow by block most) (Counted m) found kept space = if_keeps (in_run block m b && is_mapped s.kind) (without_page s) s (stays s.kind)
+keeps size b s (DirectNow by block most) (Took t) found kept space = absurd (cc)
+keeps size b s (DirectNow by block most) (Lending t m) found kept space = absurd (cc)
+keeps size b s (DirectNow by block most) Finished found kept space = absurd (cc)
 keeps size b s (Wipe by block n) (Refused f) found kept space = stays s.kind
 keeps size b s (Wipe by block n) (Sampled g) found kept space = absurd (cc)
 keeps size b s (Wipe by block n) (Counted m) found kept space = spared (in_run block n b) (becomes_hole s) s kept

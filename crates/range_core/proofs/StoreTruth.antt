@@ -9,7 +9,7 @@ use Rattle.io_model.specs.Contents.{Content}
 use Rattle.io_model.specs.Kinds.{kind_after}
 use Rattle.io_model.specs.declared.file.Kind.{Kind}
 use Rattle.io_model.specs.declared.file.Kind.TheVariants.{Hole, Delalloc, Unwritten, Mapped}
-use Rattle.range_core.specs.BlockStates.{state_of}
+use Rattle.range_core.specs.BlockStates.{state_of, becomes_dirty}
 use Rattle.range_core.specs.BlockTruth.{IsTrueAt}
 use Rattle.range_core.specs.ByteRuns.{IsByteRun, IsInFolio, after_bytes, run_between}
 use Rattle.range_core.specs.ClaimsView.{ClaimsView}
@@ -37,9 +37,10 @@ use Rattle.range_core.proofs.LayLemmas.{stored_true}
 use Rattle.range_core.proofs.PagingLemmas.{either_filled}
 use Rattle.range_core.proofs.StopLemmas.{neither, none_stops, run_of-at, where_true-not}
 use Rattle.range_core.proofs.StoreLemmas.{stored_keeps}
-use Rattle.range_core.proofs.FoundLemmas.{found_met, page-found}
+use Rattle.range_core.proofs.FoundLemmas.{found_met, page-found, part-found}
 use Rattle.range_core.proofs.LawfulLemmas.{both}
-use Rattle.range_core.specs.Happened.{keeps_page}
+use Rattle.range_core.specs.Happened.{keeps_page, is_cold_in}
+use Rattle.iob_base.specs.declared.sector.Page.{Page}
 
 -- no block of a run hinders a store over it
 abbrev pub AreStorable : RangeView → ByteRun → Type 0
@@ -94,8 +95,12 @@ seen_space r seen first k blocks c known low high space l at h =
     no_hole seen.extent.kind (first + k - seen.extent.block) space (sym is ∙ h)
 
 -- a block of a store is dirty, and else as it was
-pub stored_state : (run : ByteRun) (bytes : List ℕ) (k : ℕ) (c : Cell) → state_of (stored run bytes k c) ≡ record (state_of c) { dirty = true }
-stored_state run bytes k c = either_filled (λ d. record (state_of d) { dirty = true } ≡ record (state_of c) { dirty = true }) lacks_page run.size c (λ _. refl) (λ _. refl)
+pub stored_state : (run : ByteRun) (bytes : List ℕ) (k : ℕ) (c : Cell) → state_of (stored run bytes k c) ≡ becomes_dirty (state_of c)
+stored_state run bytes k c = at c.page
+  where
+    at : (o : Option Page) → state_of (stored run bytes k (record c { page = o })) ≡ becomes_dirty (state_of (record c { page = o }))
+    at None = refl
+    at (Some p) = refl
 
 pub if_met : {A : Type 0} (t : Bool) (x y : A) → t ≡ true → x ≡ (if t then x else y)
 if_met true x y e = refl
@@ -135,14 +140,14 @@ module _ (opening now : RangeView) (history : List Entry) (stakes : List RangeSt
         changed = refl;
         stamps = refl;
         sample = tt;
-        found = found_met now run (λ b s. not (is_hole s.kind) && keeps_page s.away) met_blocks (omega (arith, folio.blocks.low, first))
+        found = found_met now run (λ b s. not (is_hole s.kind) && (keeps_page s.away && not (covers_in_part size from to b && is_cold_in s))) met_blocks (omega (arith, folio.blocks.low, first))
             (λ k c l at.
-            both (not (is_hole c.kind)) _ (not_hole c.kind (seen_space now seen run.first k run.blocks c (known able.fresh) extent.low extent.high space l at)) (page-found (run.first + k) c.away (blocks k c l at).0));
+            both (not (is_hole c.kind)) _ (not_hole c.kind (seen_space now seen run.first k run.blocks c (known able.fresh) extent.low extent.high space l at)) (both (keeps_page c.away) _ (page-found (run.first + k) c.away (blocks k c l at).0) (part-found c (covers_in_part size from to (run.first + k)) (blocks k c l at).1)));
       })
       (record {
         content = λ b x out. if_unmet (is_met size from to b) (overlaid size from to bytes b x) x (met-outside run met_blocks b out);
-        state = λ b x out. if_unmet (is_met size from to b) (record x { dirty = true }) x (met-outside run met_blocks b out);
-        becomes = λ k was l at. stored_state run bytes k was ∙ if_met (is_met size from to (run.first + k)) (record (state_of was) { dirty = true }) (state_of was) (met-inside run met_blocks k l);
+        state = λ b x out. if_unmet (is_met size from to b) (becomes_dirty x) x (met-outside run met_blocks b out);
+        becomes = λ k was l at. stored_state run bytes k was ∙ if_met (is_met size from to (run.first + k)) (becomes_dirty (state_of was)) (state_of was) (met-inside run met_blocks k l);
         holds = λ k was content l at h.
             let there : slice_get now.cells (run.first - now.first + k) ≡ Some was = ap (λ n. slice_get now.cells (run.first - n + k)) first ∙ at in
             let f = blocks k was l there in

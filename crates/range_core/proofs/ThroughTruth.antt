@@ -1,6 +1,6 @@
 -- The range truth after an entry that changes the sectors' bytes of a run of blocks of a file that skips the page cache, and leaves a stamp on each.
 use Rattle.std.proofs.Common.{◌≡◌, ℕ, ◌+◌, ◌-◌, ◌≤◌, Bool, ◌||◌, ◌&&◌, Option, Some, None, List, [], ◌∷◌, ◌++◌, length, set, refl, sym, ◌∙◌, ap, subst, arith}
-use Rattle.std.specs.Prelude.{IfSome}
+use Rattle.std.specs.Prelude.{IfSome, is_some}
 use mathlib.Core.Option.{some}
 use lib.ListN.{get_elem?}
 use Rattle.iob_base.specs.declared.sector.Page.{Page}
@@ -49,8 +49,8 @@ module _ (f : ℕ → Cell → Cell) (keeps : KeepsStates f) where
       let kind = keeps.kind j c in
       let dirty = keeps.dirty j c in
       let away = keeps.away j c in
-      let state : Kind × Bool × Option Away → BlockState = λ p. record { kind = p.0; dirty = p.1; away = p.2 } in
-      λ i. state (kind i, dirty i, away i)
+      let page = keeps.page j c in
+      λ i. record { kind = kind i; dirty = dirty i; away = away i; uptodate = is_some (page i) }
 
   uncached-stays : (j : ℕ) (c : Cell) → IsUncached c → IsUncached (f j c)
   uncached-stays j c u = record {

@@ -4,8 +4,8 @@ use Rattle.std.proofs.lemmas.Bool.{and_parts}
 use Rattle.iob_base.specs.declared.stamp.Op.TheVariants.{Read, Write}
 use Rattle.io_model.specs.Kinds.{is_kind, kind_after}
 use Rattle.io_model.specs.declared.file.Kind.TheVariants.{Delalloc}
-use Rattle.range_core.specs.BlockStates.{BlockState, at_home_again, becomes_hole, directly_back, is_zero_already, lent_clean, lent_for, put_through, state_after, state_by, states_replayed, taken_by, with_space, written_back}
-use Rattle.range_core.specs.Happened.{fits_by, found_by, is_at_home, is_out, is_same_lender, keeps_page, lawful_from}
+use Rattle.range_core.specs.BlockStates.{BlockState, at_home_again, becomes_hole, directly_back, is_zero_already, lent_clean, lent_for, put_through, state_after, state_by, states_replayed, taken_by, with_space, written_back, becomes_dirty, becomes_uptodate, lent_directly, read_back, without_page}
+use Rattle.range_core.specs.Happened.{fits_by, found_by, is_at_home, is_out, is_same_lender, keeps_page, lawful_from, is_cold_in}
 use Rattle.range_core.specs.Kinds.{has_space, is_delalloc, is_mapped}
 use Rattle.range_core.specs.Lasting.{MappedWasWritten, is_written, wipes, writes_to, written_after}
 use Rattle.range_core.specs.Spots.{in_run, is_met}
@@ -16,6 +16,7 @@ use Rattle.range_core.specs.declared.entry.Outcome.{Outcome}
 use Rattle.range_core.specs.declared.entry.Outcome.TheVariants.{Refused, Sampled, Counted, Took, Lending, Finished}
 use Rattle.range_core.specs.declared.lending.Away.{Away}
 use Rattle.range_core.specs.declared.lending.Lender.TheVariants.{Reading, Writeback, Direct}
+use Rattle.range_core.specs.Refusals.{covers_in_part}
 
 abbrev is_out_for_writeback : Option Away → Bool
 is_out_for_writeback None = false
@@ -56,6 +57,10 @@ hole_was s now = by_loan (is_mapped s.kind) s.dirty s.away now
 home_was : (s : BlockState) → (is_mapped s.kind || (s.dirty || false)) ≡ true → Holds s
 home_was s now = home (is_mapped s.kind) s.dirty s.away now
 
+read_was : (failed : Bool) (s : BlockState) → Holds (read_back failed s) → Holds s
+read_was true s now = home_was s now
+read_was false s now = home_was s now
+
 space_was : (o : Option ℕ) (s : BlockState) → Holds (with_space o s) → Holds s
 space_was None s now = now
 space_was (Some d) s now = unmapped (is_mapped s.kind) s.dirty s.away now
@@ -71,13 +76,13 @@ changed false true o e page = refl
 changed false false None e page = absurd (cc)
 changed false false (Some away) e page = page
 
-zeroed_was : (met : Bool) (s : BlockState) → (if met then keeps_page s.away else true) ≡ true → Holds (if met && not (is_zero_already s) then record s { dirty = true } else s) → Holds s
-zeroed_was false s found now = now
-zeroed_was true s found now = at (is_zero_already s) refl now
+zeroed_was : (met cold : Bool) (s : BlockState) → (if met then keeps_page s.away && cold else true) ≡ true → Holds (if met && not (is_zero_already s) then becomes_dirty s else s) → Holds s
+zeroed_was false cold s found now = now
+zeroed_was true cold s found now = at (is_zero_already s) refl now
   where
-    at : (z : Bool) → is_zero_already s ≡ z → Holds (if true && not z then record s { dirty = true } else s) → Holds s
+    at : (z : Bool) → is_zero_already s ≡ z → Holds (if true && not z then becomes_dirty s else s) → Holds s
     at true e now = now
-    at false e now = changed (is_mapped s.kind) s.dirty s.away e found
+    at false e now = changed (is_mapped s.kind) s.dirty s.away e (and_parts (keeps_page s.away) cold found).0
 
 dirty_was : (t : Bool) (ticket : ℕ) (s : BlockState) → (if t then has_space s.kind && (is_at_home s && s.dirty) else true) ≡ true → Holds (if t then lent_clean ticket s else s) → Holds s
 dirty_was true ticket s found now =
@@ -138,7 +143,12 @@ writes size b s (Preallocate block n) (Counted m) before found was now = absurd 
 writes size b s (Preallocate block n) (Took t) before found was now = was (space_was (taken_by b t) s now)
 writes size b s (Preallocate block n) (Lending t m) before found was now = absurd (cc)
 writes size b s (Preallocate block n) Finished before found was now = absurd (cc)
-writes size b s (Fetch a0 a1 a2) o before found was now = was now
+writes size b s (Fetch by from to) (Refused f) before found was now = was now
+writes size b s (Fetch by from to) (Sampled g) before found was now = absurd (cc)
+writes size b s (Fetch by from to) (Counted m) before found was now = absurd (cc)
+writes size b s (Fetch by from to) (Took t) before found was now = absurd (cc)
+writes size b s (Fetch by from to) (Lending t m) before found was now = absurd (cc)
+writes size b s (Fetch by from to) Finished before found was now = was (either (is_met size from to b) (becomes_uptodate s) s (λ h. h) now)
 writes size b s (LendRead block n) (Refused f) before found was now = was now
 writes size b s (LendRead block n) (Sampled g) before found was now = absurd (cc)
 writes size b s (LendRead block n) (Counted m) before found was now = absurd (cc)
@@ -150,19 +160,19 @@ writes size b s (FillBack ticket block n done) (Sampled g) before found was now 
 writes size b s (FillBack ticket block n done) (Counted m) before found was now = absurd (cc)
 writes size b s (FillBack ticket block n done) (Took t) before found was now = absurd (cc)
 writes size b s (FillBack ticket block n done) (Lending t m) before found was now = absurd (cc)
-writes size b s (FillBack ticket block n done) Finished before found was now = was (either (in_run block n b) (at_home_again s) s (home_was s) now)
+writes size b s (FillBack ticket block n done) Finished before found was now = was (either (in_run block n b) (read_back done.failed s) s (read_was done.failed s) now)
 writes size b s (Store by seen from to bytes) (Refused f) before found was now = was now
 writes size b s (Store by seen from to bytes) (Sampled g) before found was now = absurd (cc)
 writes size b s (Store by seen from to bytes) (Counted m) before found was now = absurd (cc)
 writes size b s (Store by seen from to bytes) (Took t) before found was now = absurd (cc)
 writes size b s (Store by seen from to bytes) (Lending t m) before found was now = absurd (cc)
-writes size b s (Store by seen from to bytes) Finished before found was now = stored (is_met size from to b) before (record s { dirty = true }) s was now
+writes size b s (Store by seen from to bytes) Finished before found was now = stored (is_met size from to b) before (becomes_dirty s) s was now
 writes size b s (StoreZeros by seen from to) (Refused f) before found was now = was now
 writes size b s (StoreZeros by seen from to) (Sampled g) before found was now = absurd (cc)
 writes size b s (StoreZeros by seen from to) (Counted m) before found was now = absurd (cc)
 writes size b s (StoreZeros by seen from to) (Took t) before found was now = absurd (cc)
 writes size b s (StoreZeros by seen from to) (Lending t m) before found was now = absurd (cc)
-writes size b s (StoreZeros by seen from to) Finished before found was now = was (zeroed_was (is_met size from to b) s found now)
+writes size b s (StoreZeros by seen from to) Finished before found was now = was (zeroed_was (is_met size from to b) (not (covers_in_part size from to b && is_cold_in s)) s found now)
 writes size b s (LendWriteback block n) (Refused f) before found was now = was now
 writes size b s (LendWriteback block n) (Sampled g) before found was now = absurd (cc)
 writes size b s (LendWriteback block n) (Counted m) before found was now = absurd (cc)
@@ -175,12 +185,17 @@ writes size b s (WrittenBack ticket block kind n done) (Counted m) before found 
 writes size b s (WrittenBack ticket block kind n done) (Took t) before found was now = absurd (cc)
 writes size b s (WrittenBack ticket block kind n done) (Lending t m) before found was now = absurd (cc)
 writes size b s (WrittenBack ticket block kind n done) Finished before found was now = absurd (cc)
-writes size b s (DropClean a0 a1) o before found was now = was now
+writes size b s (DropClean block n) (Refused f) before found was now = was now
+writes size b s (DropClean block n) (Sampled g) before found was now = absurd (cc)
+writes size b s (DropClean block n) (Counted m) before found was now = was (either (in_run block n b && (not s.dirty && not (is_some s.away))) (without_page s) s (λ h. h) now)
+writes size b s (DropClean block n) (Took t) before found was now = absurd (cc)
+writes size b s (DropClean block n) (Lending t m) before found was now = absurd (cc)
+writes size b s (DropClean block n) Finished before found was now = absurd (cc)
 writes size b s (LendDirect by seen op block n) (Refused f) before found was now = was now
 writes size b s (LendDirect by seen op block n) (Sampled g) before found was now = absurd (cc)
 writes size b s (LendDirect by seen op block n) (Counted m) before found was now = absurd (cc)
 writes size b s (LendDirect by seen op block n) (Took t) before found was now = absurd (cc)
-writes size b s (LendDirect by seen op block n) (Lending t m) before found was now = was (either (in_run block n b) (lent_for (Direct by op) t s) s (home_was s) now)
+writes size b s (LendDirect by seen op block n) (Lending t m) before found was now = was (either (in_run block n b) (lent_directly by op t s) s (home_was s) now)
 writes size b s (LendDirect by seen op block n) Finished before found was now = was now
 writes size b s (DirectBack by Read ticket block kind pages done) (Refused f) before found was now = was now
 writes size b s (DirectBack by Read ticket block kind pages done) (Sampled g) before found was now = absurd (cc)
@@ -194,7 +209,12 @@ writes size b s (DirectBack by Write ticket block kind pages done) (Counted m) b
 writes size b s (DirectBack by Write ticket block kind pages done) (Took t) before found was now = absurd (cc)
 writes size b s (DirectBack by Write ticket block kind pages done) (Lending t m) before found was now = absurd (cc)
 writes size b s (DirectBack by Write ticket block kind pages done) Finished before found was now = sent (in_run block (length pages) b) done.failed before s was now
-writes size b s (DirectNow a0 a1 a2) o before found was now = was now
+writes size b s (DirectNow by block most) (Refused f) before found was now = was now
+writes size b s (DirectNow by block most) (Sampled g) before found was now = absurd (cc)
+writes size b s (DirectNow by block most) (Counted m) before found was now = was (either (in_run block m b && is_mapped s.kind) (without_page s) s (λ h. h) now)
+writes size b s (DirectNow by block most) (Took t) before found was now = absurd (cc)
+writes size b s (DirectNow by block most) (Lending t m) before found was now = absurd (cc)
+writes size b s (DirectNow by block most) Finished before found was now = absurd (cc)
 writes size b s (Wipe by block n) (Refused f) before found was now = was now
 writes size b s (Wipe by block n) (Sampled g) before found was now = absurd (cc)
 writes size b s (Wipe by block n) (Counted m) before found was now = wiped (in_run block n b) before s was found now

@@ -10,7 +10,7 @@ use Rattle.iob_base.specs.declared.stamp.Tag.{Tag}
 use Rattle.io_model.specs.Contents.{Content, zeros}
 use Rattle.io_model.specs.declared.file.Kind.{Kind}
 use Rattle.io_model.specs.declared.file.Kind.TheVariants.{Hole}
-use Rattle.range_core.specs.BlockStates.{is_zero_already, state_of}
+use Rattle.range_core.specs.BlockStates.{is_zero_already, state_of, becomes_dirty}
 use Rattle.range_core.specs.BlockTruth.{HomeContent, IsHomeContent, IsTrueAt}
 use Rattle.range_core.specs.ByteRuns.{IsByteRun, IsInFolio, after_bytes, run_between}
 use Rattle.range_core.specs.Cells.{HasPlace}
@@ -37,8 +37,9 @@ use Rattle.range_core.proofs.FetchTruth.{refused_truth}
 use Rattle.range_core.proofs.LayLemmas.{stored_true}
 use Rattle.range_core.proofs.StoreTruth.{AreStorable, if_met, if_unmet, storable, stored_state}
 use Rattle.range_core.proofs.ZeroLemmas.{either_zero, zeroed_keeps, zeros_over}
-use Rattle.range_core.proofs.FoundLemmas.{found_met, page-found}
-use Rattle.range_core.specs.Happened.{keeps_page}
+use Rattle.range_core.proofs.FoundLemmas.{found_met, page-found, part-found}
+use Rattle.range_core.specs.Happened.{keeps_page, is_cold_in}
+use Rattle.range_core.proofs.LawfulLemmas.{both}
 
 untrue : (t : Bool) → not t ≡ true → t ≡ false
 untrue true e = absurd (cc)
@@ -80,11 +81,11 @@ changed_space size b c content stakes e t h = at c.dirty refl
     at false x = still (is_mapped c.kind) c.dirty (is_some c.away) (ap is_mapped h) x (home c.away t.place) e
 
 -- a met block becomes dirty where zeros change it
-zeroed_state : (run : ByteRun) (k : ℕ) (met : Bool) (c : Cell) → met ≡ true → state_of (zeroed run k c) ≡ (if met && not (is_zero_already (state_of c)) then record (state_of c) { dirty = true } else state_of c)
+zeroed_state : (run : ByteRun) (k : ℕ) (met : Bool) (c : Cell) → met ≡ true → state_of (zeroed run k c) ≡ (if met && not (is_zero_already (state_of c)) then becomes_dirty (state_of c) else state_of c)
 zeroed_state run k met c m =
-    either_zero (λ d. state_of d ≡ (if met && not (is_zero_already (state_of c)) then record (state_of c) { dirty = true } else state_of c)) (stored run (zeros_of run) k) c
-    (λ e. sym (if_unmet (met && not (is_zero_already (state_of c))) (record (state_of c) { dirty = true }) (state_of c) (still met (is_zero_already (state_of c)) e)))
-    (λ e. stored_state run (zeros_of run) k c ∙ if_met (met && not (is_zero_already (state_of c))) (record (state_of c) { dirty = true }) (state_of c) (ap (λ t. t && not (is_zero_already (state_of c))) m ∙ ap not e))
+    either_zero (λ d. state_of d ≡ (if met && not (is_zero_already (state_of c)) then becomes_dirty (state_of c) else state_of c)) (stored run (zeros_of run) k) c
+    (λ e. sym (if_unmet (met && not (is_zero_already (state_of c))) (becomes_dirty (state_of c)) (state_of c) (still met (is_zero_already (state_of c)) e)))
+    (λ e. stored_state run (zeros_of run) k c ∙ if_met (met && not (is_zero_already (state_of c))) (becomes_dirty (state_of c)) (state_of c) (ap (λ t. t && not (is_zero_already (state_of c))) m ∙ ap not e))
   where
     still : (m t : Bool) → t ≡ true → (m && not t) ≡ false
     still true true e = refl
@@ -139,11 +140,12 @@ module _ (opening now : RangeView) (history : List Entry) (stakes : List RangeSt
         changed = refl;
         stamps = refl;
         sample = tt;
-        found = found_met now run (λ b s. keeps_page s.away) met_blocks (omega (arith, folio.blocks.low, first)) (λ k c l at. page-found (run.first + k) c.away (blocks k c l at).0);
+        found = found_met now run (λ b s. keeps_page s.away && not (covers_in_part size from to b && is_cold_in s)) met_blocks (omega (arith, folio.blocks.low, first))
+            (λ k c l at. both (keeps_page c.away) _ (page-found (run.first + k) c.away (blocks k c l at).0) (part-found c (covers_in_part size from to (run.first + k)) (blocks k c l at).1));
       })
       (record {
         content = λ b x out. if_unmet (is_met size from to b) (overlaid size from to (zeros_of run) b x) x (met-outside run met_blocks b out);
-        state = λ b x out. if_unmet (is_met size from to b && not (is_zero_already x)) (record x { dirty = true }) x (unmet_state (is_met size from to b) (not (is_zero_already x)) (met-outside run met_blocks b out));
+        state = λ b x out. if_unmet (is_met size from to b && not (is_zero_already x)) (becomes_dirty x) x (unmet_state (is_met size from to b) (not (is_zero_already x)) (met-outside run met_blocks b out));
         becomes = λ k was l at. zeroed_state run k (is_met size from to (run.first + k)) was (met-inside run met_blocks k l);
         holds = λ k was content l at h.
             let there : slice_get now.cells (run.first - now.first + k) ≡ Some was = ap (λ n. slice_get now.cells (run.first - n + k)) first ∙ at in

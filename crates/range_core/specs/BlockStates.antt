@@ -1,8 +1,9 @@
--- What the entries of a history do to a block's kind, its dirty bit, and where its sector is.
+-- What the entries of a history do to a block's kind, its dirty bit, where its sector is, and whether it is uptodate.
 use Rattle.std.specs.Prelude.{ℕ, Bool, true, false, ◌&&◌, not, ◌==◌, Option, Some, None, is_some, List, [], ◌∷◌, length, if◌then◌else◌}
 use Rattle.std.specs.List.{fold}
 use Rattle.iob_base.specs.declared.stamp.Op.{Op}
 use Rattle.iob_base.specs.declared.stamp.Op.TheVariants.{Write}
+use Rattle.iob_base.specs.declared.stamp.Tag.{Tag}
 use Rattle.io_model.specs.declared.file.Kind.{Kind}
 use Rattle.io_model.specs.declared.file.Kind.TheVariants.{Hole, Delalloc, Unwritten, Mapped}
 use Rattle.range_core.specs.Kinds.{is_delalloc, is_mapped, written_kind}
@@ -10,21 +11,22 @@ use Rattle.range_core.specs.Spots.{in_run, is_met}
 use Rattle.range_core.specs.declared.cell.Cell.{Cell}
 use Rattle.range_core.specs.declared.entry.Entry.{Entry}
 use Rattle.range_core.specs.declared.entry.Event.{Event}
-use Rattle.range_core.specs.declared.entry.Event.TheVariants.{Reserve, Unreserve, Attach, Preallocate, LendRead, FillBack, Store, StoreZeros, LendWriteback, WrittenBack, LendDirect, DirectBack, Wipe, DaxPut}
+use Rattle.range_core.specs.declared.entry.Event.TheVariants.{Reserve, Unreserve, Attach, Preallocate, Fetch, LendRead, FillBack, Store, StoreZeros, LendWriteback, WrittenBack, DropClean, LendDirect, DirectBack, DirectNow, Wipe, DaxPut}
 use Rattle.range_core.specs.declared.entry.Outcome.{Outcome}
 use Rattle.range_core.specs.declared.entry.Outcome.TheVariants.{Sampled, Counted, Took, Lending, Finished}
 use Rattle.range_core.specs.declared.lending.Away.{Away}
 use Rattle.range_core.specs.declared.lending.Lender.{Lender}
 use Rattle.range_core.specs.declared.lending.Lender.TheVariants.{Reading, Writeback, Direct}
 
--- of a block: its kind, whether its page has bytes that its sector lacks, and which ticket has its sector
+-- of a block: its kind, whether its page has bytes that its sector lacks, which ticket has its sector, and whether it has a page, which is then uptodate
 pub record BlockState : Type 0 where
   pub kind : Kind
   pub dirty : Bool
   pub away : Option Away
+  pub uptodate : Bool
 
 abbrev pub state_of : Cell → BlockState
-state_of c = record { kind = c.kind; dirty = c.dirty; away = c.away }
+state_of c = record { kind = c.kind; dirty = c.dirty; away = c.away; uptodate = is_some c.page }
 
 -- the number of the sector that a block took
 abbrev pub taken_by : ℕ → List (ℕ × ℕ) → Option ℕ
@@ -32,7 +34,7 @@ taken_by b [] = None
 taken_by b (s ∷ sectors) = if s.0 == b then Some s.1 else taken_by b sectors
 
 abbrev pub becomes_hole : BlockState → BlockState
-becomes_hole s = record { kind = Hole; dirty = false; away = s.away }
+becomes_hole s = record { kind = Hole; dirty = false; away = s.away; uptodate = false }
 
 -- a block that took a sector has space that was never written
 abbrev pub with_space : Option ℕ → BlockState → BlockState
@@ -51,8 +53,27 @@ lent_for lender ticket s = record s { away = Some (record { ticket = ticket; len
 abbrev pub lent_clean : ℕ → BlockState → BlockState
 lent_clean ticket s = record (lent_for Writeback ticket s) { dirty = false }
 
+-- lent with a caller's own page, a block has none in the cache
+abbrev pub lent_directly : Tag → Op → ℕ → BlockState → BlockState
+lent_directly by op ticket s = record (lent_for (Direct by op) ticket s) { uptodate = false }
+
 abbrev pub at_home_again : BlockState → BlockState
 at_home_again s = record s { away = None }
+
+-- a block that was read whole has its page
+abbrev pub read_back : Bool → BlockState → BlockState
+read_back true s = at_home_again s
+read_back false s = record s { away = None; uptodate = true }
+
+abbrev pub becomes_uptodate : BlockState → BlockState
+becomes_uptodate s = record s { uptodate = true }
+
+-- a block with bytes that its sector lacks
+abbrev pub becomes_dirty : BlockState → BlockState
+becomes_dirty s = record s { dirty = true; uptodate = true }
+
+abbrev pub without_page : BlockState → BlockState
+without_page s = record s { uptodate = false }
 
 -- a block whose page was written is mapped, and one whose page was not is dirty
 abbrev pub written_back : Bool → BlockState → BlockState
@@ -75,13 +96,16 @@ state_by size b (Unreserve block blocks) (Counted n) s = if in_run block blocks 
 state_by size b (Attach block blocks) (Took sectors) s = with_space (taken_by b sectors) s
 state_by size b (Preallocate block blocks) (Took sectors) s = with_space (taken_by b sectors) s
 state_by size b (LendRead block most) (Lending ticket n) s = if in_run block n b then lent_for Reading ticket s else s
-state_by size b (FillBack ticket block n done) Finished s = if in_run block n b then at_home_again s else s
-state_by size b (Store by seen from to bytes) Finished s = if is_met size from to b then record s { dirty = true } else s
-state_by size b (StoreZeros by seen from to) Finished s = if is_met size from to b && not (is_zero_already s) then record s { dirty = true } else s
+state_by size b (Fetch by from to) Finished s = if is_met size from to b then becomes_uptodate s else s
+state_by size b (FillBack ticket block n done) Finished s = if in_run block n b then read_back done.failed s else s
+state_by size b (Store by seen from to bytes) Finished s = if is_met size from to b then becomes_dirty s else s
+state_by size b (StoreZeros by seen from to) Finished s = if is_met size from to b && not (is_zero_already s) then becomes_dirty s else s
 state_by size b (LendWriteback block most) (Lending ticket n) s = if in_run block n b then lent_clean ticket s else s
 state_by size b (WrittenBack ticket block kind n done) (Counted m) s = if in_run block n b then written_back done.failed s else s
-state_by size b (LendDirect by seen op block n) (Lending ticket m) s = if in_run block n b then lent_for (Direct by op) ticket s else s
+state_by size b (DropClean block blocks) (Counted n) s = if in_run block blocks b && (not s.dirty && not (is_some s.away)) then without_page s else s
+state_by size b (LendDirect by seen op block n) (Lending ticket m) s = if in_run block n b then lent_directly by op ticket s else s
 state_by size b (DirectBack by op ticket block kind pages done) Finished s = if in_run block (length pages) b then directly_back op done.failed s else s
+state_by size b (DirectNow by block most) (Counted n) s = if in_run block n b && is_mapped s.kind then without_page s else s
 state_by size b (Wipe by block blocks) (Counted n) s = if in_run block blocks b then becomes_hole s else s
 state_by size b (DaxPut by seen from to bytes) (Took sectors) s = if is_met size from to b then put_through (taken_by b sectors) s else s
 state_by size b _ _ s = s

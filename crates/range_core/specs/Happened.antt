@@ -7,6 +7,7 @@ use Rattle.io_model.specs.declared.file.Kind.{Kind}
 use Rattle.range_core.specs.BlockStates.{BlockState, state_after, state_of, taken_by}
 use Rattle.range_core.specs.Kinds.{has_space, is_delalloc, is_hole, is_mapped}
 use Rattle.range_core.specs.RangeView.{RangeView}
+use Rattle.range_core.specs.Refusals.{covers_in_part}
 use Rattle.range_core.specs.Spots.{in_run, is_met}
 use Rattle.range_core.specs.declared.cell.Cell.{Cell}
 use Rattle.range_core.specs.declared.entry.Entry.{Entry}
@@ -50,6 +51,10 @@ is_settled s = is_at_home s && not s.dirty
 abbrev pub is_bare : BlockState → Bool
 is_bare s = is_settled s && not (is_delalloc s.kind)
 
+-- a block would have to be read from the device first
+abbrev pub is_cold_in : BlockState → Bool
+is_cold_in s = is_mapped s.kind && (is_at_home s && not s.uptodate)
+
 -- a block of this kind is lent with a caller's own page: to be written where it has space, to be read where it is mapped
 abbrev pub is_lendable : Op → Kind → Bool
 is_lendable Read kind = is_mapped kind
@@ -68,11 +73,11 @@ found_by size b (Reserve seen blocks) (Sampled sample) s = if in_run sample.exte
 found_by size b (Unreserve block blocks) (Counted n) s = true
 found_by size b (Attach block blocks) (Took sectors) s = took_just (in_run block blocks b && (is_delalloc s.kind && s.dirty)) (taken_by b sectors)
 found_by size b (Preallocate block blocks) (Took sectors) s = took_just (in_run block blocks b && not (has_space s.kind)) (taken_by b sectors)
-found_by size b (Fetch by from to) Finished s = if is_met size from to b then keeps_page s.away else true
-found_by size b (LendRead block most) (Lending ticket n) s = if in_run block n b then is_mapped s.kind && is_settled s else true
+found_by size b (Fetch by from to) Finished s = if is_met size from to b then keeps_page s.away && not (is_cold_in s) else true
+found_by size b (LendRead block most) (Lending ticket n) s = if in_run block n b then is_cold_in s && not s.dirty else true
 found_by size b (FillBack ticket block n done) Finished s = if in_run block n b then is_out ticket Reading s.away else true
-found_by size b (Store by seen from to bytes) Finished s = if is_met size from to b then not (is_hole s.kind) && keeps_page s.away else true
-found_by size b (StoreZeros by seen from to) Finished s = if is_met size from to b then keeps_page s.away else true
+found_by size b (Store by seen from to bytes) Finished s = if is_met size from to b then not (is_hole s.kind) && (keeps_page s.away && not (covers_in_part size from to b && is_cold_in s)) else true
+found_by size b (StoreZeros by seen from to) Finished s = if is_met size from to b then keeps_page s.away && not (covers_in_part size from to b && is_cold_in s) else true
 found_by size b (LendWriteback block most) (Lending ticket n) s = if in_run block n b then has_space s.kind && (is_at_home s && s.dirty) else true
 found_by size b (WrittenBack ticket block kind n done) (Counted m) s = if in_run block n b then is_out ticket Writeback s.away && is_kind (kind_after kind (b - block)) s.kind else true
 found_by size b (DropClean block blocks) (Counted n) s = true

@@ -39,6 +39,7 @@ pub mod RangeTruth
 pub mod RangeView
 pub mod ReadsNow
 pub mod Refusals
+pub mod RefusedAlike
 pub mod Reserving
 pub mod Returning
 pub mod Runs

@@ -29,7 +29,10 @@ abbrev entry : Event → Outcome → Entry
 entry event outcome = record { caller = 3; event = event; outcome = outcome }
 
 abbrev state : Kind → Bool → BlockState
-state kind dirty = record { kind = kind; dirty = dirty; away = None }
+state kind dirty = record { kind = kind; dirty = dirty; away = None; uptodate = false }
+
+abbrev cached : Kind → Bool → BlockState
+cached kind dirty = record (state kind dirty) { uptodate = true }
 
 abbrev done : ℕ → ℕ → Bool → Done
 done blocks landed failed = record { lane = 3; blocks = blocks; landed = landed; failed = failed; before = 0; after = if failed then 1 else 0 }
@@ -50,25 +53,25 @@ wiped = entry (Wipe tag 0 1) (Counted 1)
 
 -- a store into a block of zeros leaves zeros around its bytes, and makes it dirty
 abbrev pub StoreLeavesZerosAround : Type 0
-StoreLeavesZerosAround = (replayed 4 0 (0 ∷ 0 ∷ 0 ∷ 0 ∷ []) (stored ∷ []) ≡ 0 ∷ 65 ∷ 66 ∷ 0 ∷ []) × (states_replayed 4 0 (state (Unwritten 7) false) (stored ∷ []) ≡ state (Unwritten 7) true)
+StoreLeavesZerosAround = (replayed 4 0 (0 ∷ 0 ∷ 0 ∷ 0 ∷ []) (stored ∷ []) ≡ 0 ∷ 65 ∷ 66 ∷ 0 ∷ []) × (states_replayed 4 0 (state (Unwritten 7) false) (stored ∷ []) ≡ cached (Unwritten 7) true)
 
 -- a block that was written is mapped and clean
 abbrev pub WritebackMaps : Type 0
-WritebackMaps = states_replayed 4 0 (state (Unwritten 7) false) (stored ∷ lent ∷ back false ∷ []) ≡ state (Mapped 7) false
+WritebackMaps = states_replayed 4 0 (state (Unwritten 7) false) (stored ∷ lent ∷ back false ∷ []) ≡ cached (Mapped 7) false
 
 -- where the write failed, its kind stays and it is dirty again
 abbrev pub FailedWritebackMakesDirty : Type 0
-FailedWritebackMakesDirty = states_replayed 4 0 (state (Unwritten 7) false) (stored ∷ lent ∷ back true ∷ []) ≡ state (Unwritten 7) true
+FailedWritebackMakesDirty = states_replayed 4 0 (state (Unwritten 7) false) (stored ∷ lent ∷ back true ∷ []) ≡ cached (Unwritten 7) true
 
 -- a store in the meantime leaves the block dirty
 abbrev pub StoreMeanwhileStaysDirty : Type 0
-StoreMeanwhileStaysDirty = states_replayed 4 0 (state (Unwritten 7) false) (stored ∷ lent ∷ stored ∷ back false ∷ []) ≡ state (Mapped 7) true
+StoreMeanwhileStaysDirty = states_replayed 4 0 (state (Unwritten 7) false) (stored ∷ lent ∷ stored ∷ back false ∷ []) ≡ cached (Mapped 7) true
 
 -- a wipe leaves a hole that reads as zeros, and no other block changes
 abbrev pub WipeLeavesAHole : Type 0
 WipeLeavesAHole =
-    (replayed 4 0 (1 ∷ 2 ∷ 3 ∷ 4 ∷ []) (wiped ∷ []) ≡ 0 ∷ 0 ∷ 0 ∷ 0 ∷ []) × (states_replayed 4 0 (state (Mapped 7) true) (wiped ∷ []) ≡ state Hole false)
-    × (replayed 4 1 (1 ∷ 2 ∷ 3 ∷ 4 ∷ []) (wiped ∷ []) ≡ 1 ∷ 2 ∷ 3 ∷ 4 ∷ []) × (states_replayed 4 1 (state (Mapped 7) true) (wiped ∷ []) ≡ state (Mapped 7) true)
+    (replayed 4 0 (1 ∷ 2 ∷ 3 ∷ 4 ∷ []) (wiped ∷ []) ≡ 0 ∷ 0 ∷ 0 ∷ 0 ∷ []) × (states_replayed 4 0 (cached (Mapped 7) true) (wiped ∷ []) ≡ state Hole false)
+    × (replayed 4 1 (1 ∷ 2 ∷ 3 ∷ 4 ∷ []) (wiped ∷ []) ≡ 1 ∷ 2 ∷ 3 ∷ 4 ∷ []) × (states_replayed 4 1 (cached (Mapped 7) true) (wiped ∷ []) ≡ cached (Mapped 7) true)
 
 abbrev stamp : ℕ → Mark → ℕ × Stamp
 stamp b mark = (b, record { caller = 3; call = 9; mark = mark })

@@ -28,7 +28,7 @@ abbrev done : Bool → Done
 done failed = record { lane = 3; blocks = 1; landed = if failed then 0 else 1; failed = failed; before = 0; after = if failed then 1 else 0 }
 
 abbrev state : Kind → Bool → BlockState
-state kind dirty = record { kind = kind; dirty = dirty; away = None }
+state kind dirty = record { kind = kind; dirty = dirty; away = None; uptodate = dirty }
 
 abbrev reserved : Entry
 reserved = entry (Reserve (seen Hole) 1) (Sampled (seen Delalloc))

@@ -4,6 +4,7 @@ ghost use Rattle.range_core.specs.Conversions.{OnlyWritesMap};
 ghost use Rattle.range_core.specs.Lasting.{MappedWasWritten, SectorsLast};
 ghost use Rattle.range_core.specs.Loans.{LoanIsClaimed, OthersStayClaimed, ReturnFreesClaim};
 ghost use Rattle.range_core.specs.Quiet.{RefusedIsQuiet};
+ghost use Rattle.range_core.specs.RefusedAlike.{FilledIsWarm, HistoryRefuses};
 ghost use Rattle.range_core.specs.StampedChanges.{OnlyStampsChange};
 ghost use Rattle.range_core.specs.TriedHistories.{NothingAwayIsMet, OnlyLentComesBack, ReadCanHappen, RefusalsSayNothing, SectorsAreTakenOnce, StatesHinder, WriteCanHappen};
 ghost use Rattle.range_core.specs.TriedRefusals.{StaleComesFirst, AwayComesBeforeCold, WritebackHindersNoStore, WholeBlocksAreNotCold, SettledIsNotLent, DirtyIsNotReadDirectly, WornChangesNoKind, DirectLendsAreRefusedInOrder, PutsAreRefusedInOrder};
@@ -121,4 +122,14 @@ pub fn unlawful_cannot_happen()
     ensures away { NothingAwayIsMet }
     ensures taken { SectorsAreTakenOnce }
     ensures states { StatesHinder }
+{}
+
+/// What each event is refused for at a range is a function of the range as it was opened and of its history.
+pub fn history_refuses()
+    ensures { HistoryRefuses }
+{}
+
+/// A block whose read came back whole is not cold, so a store finds it uptodate while no other event meets it.
+pub fn filled_is_warm()
+    ensures { FilledIsWarm }
 {}

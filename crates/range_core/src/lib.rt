@@ -52,11 +52,12 @@ pub use entry::{Entry, Event, Outcome};
 pub use fault::EventFault;
 pub use io_model::{BlockEnd, Extent, Kind};
 pub use laws::{
-    failed_read_misses, failed_write_lands_a_prefix, lawful_can_happen, loan_is_claimed,
-    mapped_was_written, only_stamps_change, only_what_hinders_refuses, only_writes_map,
-    others_stay_claimed, put_leaves_zeros_around, refusals_have_an_order, refused_is_quiet,
-    return_frees_claim, sectors_last, store_leaves_zeros_around, store_stamps_each_block,
-    unlawful_cannot_happen, wipe_leaves_a_hole, writeback_maps,
+    failed_read_misses, failed_write_lands_a_prefix, filled_is_warm, history_refuses,
+    lawful_can_happen, loan_is_claimed, mapped_was_written, only_stamps_change,
+    only_what_hinders_refuses, only_writes_map, others_stay_claimed, put_leaves_zeros_around,
+    refusals_have_an_order, refused_is_quiet, return_frees_claim, sectors_last,
+    store_leaves_zeros_around, store_stamps_each_block, unlawful_cannot_happen, wipe_leaves_a_hole,
+    writeback_maps,
 };
 pub use lending::{Away, Held, Lender, Lent, Pages};
 pub use range::{
