@@ -113,9 +113,9 @@ module _ {T : Type 0} where
   moving-set k views id v w at = total-set (moving_at k) views id v w at
 
   -- a slot is as it was where the seat that changes does the same with it
-  pub slot-same : (views : List (Known T)) (id : ℕ) (v w : Known T) (k : ℕ) (note : Option (Bio T)) (home : Home T) → get_elem? views id ≡ some v → waits k w.doing ≡ waits k v.doing → moves k w.doing ≡ moves k v.doing
-      → FitsSlot views k note home → FitsSlot (set views id w) k note home
-  slot-same views id v w k note home at same same' f =
+  pub slot-same : (views : List (Known T)) (id : ℕ) (v w : Known T) (k : ℕ) (n : Option (Bio T)) (home : Home T) → get_elem? views id ≡ some v → waits k w.doing ≡ waits k v.doing → moves k w.doing ≡ moves k v.doing
+      → FitsSlot views k n home → FitsSlot (set views id w) k n home
+  slot-same views id v w k n home at same same' f =
       let a = waiting-set k views id v w at in
       let b = moving-set k views id v w at in
       let c = f.counted in

@@ -1,15 +1,17 @@
 //! Bios are sent out, run for their senders, and awaited.
 ghost use Rattle.std.specs.Prelude.{◌≡◌, ◌<◌, None};
+ghost use Rattle.std.specs.Arc.{arc_value};
 ghost use Rattle.fault_device.specs.LaneView.{lane_seen};
+ghost use Rattle.fault_device.specs.Ran.{Ran};
 ghost use Rattle.fault_device.specs.Transfer.{CanTransfer};
 ghost use Rattle.bio_pages.specs.Queue.{Grew};
 ghost use Rattle.bio_pages.specs.Running.{HasRun};
-ghost use Rattle.bio_pages.specs.Shelf.{IsFree, with_errand, seen_last};
+ghost use Rattle.bio_pages.specs.Shelf.{IsFree, outcome_at, seen_last, spent, with_errand};
 
 use crate::bio::{Bio, run_bio};
 use crate::queue::{BioQueue, QueuePass};
 use crate::sent::Sent;
-use crate::shelf::BioShelf;
+use crate::shelf::{BioShelf, PutEnd};
 use crate::shelf_seat::ShelfSeat;
 use fault_device::Lane;
 use folio_bits::Outcome;
@@ -17,10 +19,12 @@ use std::alloc::Global;
 use std::sync::{Arc, Wait};
 use std::thread;
 
-/// Runs a bio for its sender on this lane, and puts it on the shelf to which it returns. It takes no memory, and waits for
-/// nobody.
-pub fn serve<T: Drop>(lane: &mut Lane, sent: Sent<T>)
-    ensures { HasRun (lane_seen count tells lane.old) (lane_seen count tells lane.new) }
+/// Runs a bio for its sender on this lane, by one transfer, and puts it on the shelf to which it returns. It takes no memory,
+/// and waits for nobody.
+pub fn serve<T: Drop>(lane: &mut Lane, sent: Sent<T>) -> PutEnd<T>
+    ensures seat { result.seat ≡ spent sent.seat result.seat.found }
+    ensures outcome { result.outcome ≡ outcome_at sent.seat.amount result.seat.found }
+    ensures ran { Ran 1 (lane_seen count tells lane.old) (lane_seen count tells lane.new) }
 {
     let Sent {
         mut bio,
@@ -29,12 +33,12 @@ pub fn serve<T: Drop>(lane: &mut Lane, sent: Sent<T>)
     } = sent;
     let slot = bio.slot;
     let done = run_bio(lane, &mut bio);
-    shelf.put(seat, slot, bio, done);
+    shelf.put(seat, slot, bio, done)
 }
 
 // One more owner of the shelf. Their count is full only where nearly 2^63 bios are on their way.
 fn another<T, R: Wait>(rt: &R, shelf: &Arc<BioShelf<T>, Global>) -> Arc<BioShelf<T>, Global>
-    ensures { result.value ≡ shelf.now.value }
+    ensures { arc_value result ≡ arc_value shelf.now }
 {
     for _ in rt.forever() {
         if let Ok(handle) = Arc::try_clone(shelf) {
@@ -57,7 +61,7 @@ pub fn send_out<T: Drop, R: Wait>(
     bio: Bio<T>,
 )
     requires queue { pass.old.queue ≡ queue.now.queue }
-    requires shelf { owner.old.shelf ≡ shelf.now.value }
+    requires shelf { owner.old.shelf ≡ arc_value shelf.now }
     requires owner { owner.old.seat ≡ 0 }
     requires amount { 32 < owner.old.amount }
     requires free { IsFree owner.old bio.slot }
@@ -97,7 +101,9 @@ pub fn await_last<T: Drop, R: Wait>(
             return;
         }
         match queue.pop(rt, pass) {
-            Some(sent) => serve(lane, sent),
+            Some(sent) => {
+                serve(lane, sent);
+            }
             None => thread::yield_now(),
         }
     }

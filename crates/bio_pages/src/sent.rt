@@ -1,5 +1,6 @@
 //! A bio on its way.
 ghost use Rattle.std.specs.Prelude.{◌≡◌, Some};
+ghost use Rattle.std.specs.Arc.{arc_value};
 ghost use Rattle.fault_device.specs.Transfer.{CanTransfer};
 ghost use Rattle.bio_pages.specs.ShelfRule.{errand_to};
 
@@ -21,7 +22,7 @@ pub struct Sent<T> {
     pub bio: Bio<T>,
     pub seat: ShelfSeat<T>,
     pub shelf: Arc<BioShelf<T>, Global>,
-    pub ghost of_shelf: { seat.shelf ≡ shelf.value },
+    pub ghost of_shelf: { seat.shelf ≡ arc_value shelf },
     pub ghost errand: { seat.errand ≡ Some (errand_to bio.slot bio) },
     pub ghost can_run: { CanTransfer bio.parts },
 }

@@ -2,6 +2,8 @@
 #![tactic(auto)]
 
 #[cfg(test)]
+mod bios;
+#[cfg(test)]
 mod iovs;
 #[cfg(test)]
 mod locks;

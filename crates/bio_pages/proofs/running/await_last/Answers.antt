@@ -16,5 +16,5 @@ loop-preserved-in-Some-pop g c =
       looks = (found == c.args.owner.now.amount, found, c.look.ensures.seat ∙ ap (λ (s : SeatView g.row.T.Denot). looked s found) c.loop.invariant.looks.2);
       queue = ap (λ (p : PassView g.row.T.Denot). p.queue) passed ∙ c.loop.invariant.queue;
       grew = grew-as 0 _ _ _ c.loop.invariant.grew (ap (λ (p : PassView g.row.T.Denot). p.full) passed) (ap (λ (p : PassView g.row.T.Denot). p.pushed) passed);
-      lane = lane-then _ _ _ c.loop.invariant.lane c.serve.ensures;
+      lane = lane-then _ _ _ c.loop.invariant.lane (1, c.serve.ensures.ran);
     }

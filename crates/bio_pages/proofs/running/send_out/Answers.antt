@@ -9,3 +9,6 @@ returns-in_default-clause-pushed g c = grew-pushed _ _ _ c.in_default.ensures
 
 pub returns-in_default-clause-lane : goal.returns-in_default-clause-lane
 returns-in_default-clause-lane g c = lane-none _
+
+pub returns-in-Err-clause-lane : goal.returns-in-Err-clause-lane
+returns-in-Err-clause-lane g c = (1, c.serve.ensures.ran)
