@@ -1,5 +1,5 @@
 //! Mappings: a file system with one mapping a block, which changes them once, and a call that goes over a range of its file.
-ghost use Rattle.std.specs.Prelude.{◌≡◌, ◌+◌, ◌*◌, ◌^◌, ◌≤◌, ℕ, min, Some, None, Unit, IfOk, IsOk, is_ok, true};
+ghost use Rattle.std.specs.Prelude.{◌≡◌, ◌+◌, ◌-◌, ◌^◌, ◌≤◌, min, Some, None, IfOk, is_ok, true};
 ghost use Rattle.iomap_core.specs.Mappings.{IsBegun, IsSameMapping, stale-same};
 
 use iob_base::FileId;
@@ -10,10 +10,9 @@ use std::test::*;
 
 const BLOCK: u64 = 16;
 
-// A file system of files of so many blocks of 16 bytes, all mapped. It changes its mappings after this begin.
+// A file system of files of four blocks of 16 bytes, all mapped. It changes its mappings after this begin.
 #[derive(Drop)]
 struct OneBlock {
-    blocks: u32,
     changes_at: u64,
 }
 
@@ -33,7 +32,7 @@ impl IomapOps for OneBlock {
 
     ghost is_of = { λ _ _. Unit {0} };
 
-    ghost file_end = { λ ops _. ops.blocks * 16 };
+    ghost file_end = { λ _ _. 64 };
 
     ghost allows = { λ _ _ _. Unit {0} };
 
@@ -67,9 +66,8 @@ impl IomapOps for OneBlock {
         };
         pass.unended = Some(iomap);
         pass.begun = pass.begun.saturating_add(1);
-        if pass.begun == self.changes_at {
-            pass.cookie = pass.cookie.saturating_add(1);
-        }
+        let changed = pass.begun == self.changes_at;
+        pass.cookie = pass.cookie.saturating_add(changed as u64);
         Ok(iomap)
     }
 
@@ -114,7 +112,7 @@ fn in_mapping<R: Wait>(
 
 // Goes over `length` bytes from `pos` on. Each mapping that was begun is ended.
 fn go_over<R: Wait>(rt: &R, ops: &OneBlock, pass: &mut Trip, pos: u64, length: u64) -> bool
-    requires within { pos + length ≤ ops.now.blocks * 16 }
+    requires within { pos + length ≤ 64 }
     requires even { pass.old.begun ≡ pass.old.ended }
     ensures { pass.new.begun ≡ pass.new.ended }
 {
@@ -139,10 +137,7 @@ fn go_over<R: Wait>(rt: &R, ops: &OneBlock, pass: &mut Trip, pos: u64, length: u
 
 #[test]
 fn each_mapping_is_ended_once(rt: HostRuntime) -> Result<(), Fail> {
-    let ops = OneBlock {
-        blocks: 4,
-        changes_at: 2,
-    };
+    let ops = OneBlock { changes_at: 2 };
     let mut trip = Trip {
         begun: 0,
         ended: 0,
