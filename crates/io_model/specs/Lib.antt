@@ -22,4 +22,5 @@ pub mod Conversion
 pub mod Space
 pub mod Budgets
 pub mod Sizes
+pub mod SizeText
 pub mod Causes

@@ -12,6 +12,7 @@ use Rattle.io_model.specs.Calls.{is_direct}
 use Rattle.io_model.specs.Finals.{sector_bytes}
 use Rattle.io_model.specs.Kinds.{kind_at, mapped_number}
 use Rattle.io_model.specs.ReplyText.{hex_text, verb_text, reply_text}
+use Rattle.io_model.specs.SizeText.{size_lines}
 use Rattle.io_model.specs.Text.{◌⋅◌}
 use Rattle.io_model.specs.declared.file.BlockEnd.{BlockEnd}
 use Rattle.io_model.specs.declared.file.Extent.{Extent}
@@ -120,8 +121,8 @@ image_lines name extents b (block ∷ blocks) rest =
 
 abbrev pub file_lines : Bool → List ℕ → FileEnd → List ℕ → List ℕ
 file_lines image name end rest =
-    journal_lines name 0 end.blocks (map_lines name end.extents (dirty_lines name 0 end.blocks
-    (if image then image_lines name end.extents 0 end.blocks rest else rest)))
+    journal_lines name 0 end.blocks (size_lines name end.size end.sizes (map_lines name end.extents (dirty_lines name 0 end.blocks
+    (if image then image_lines name end.extents 0 end.blocks rest else rest))))
 
 abbrev pub files_lines : Bool → List (List ℕ) → List FileEnd → List ℕ → List ℕ
 files_lines image [] ends rest = rest

@@ -11,4 +11,5 @@ pub mod Naming
 pub mod Places
 pub mod Reading
 pub mod Runs
+pub mod Sizing
 pub mod Walking

@@ -14,7 +14,7 @@ use Rattle.io_script.specs.Causes.{first_of, or_else}
 use Rattle.io_script.specs.Grammar.{IsScript, TEXT_LIMIT, at_line, cause_by_kind, common_cause, kind_cause, line_cause, next_said, refusal_from, refusal_of, so_far, unended_cause, with_header, with_kind, with_line, with_piece}
 use Rattle.io_script.specs.GrammarCalls.{with_name}
 use Rattle.io_script.specs.GrammarKinds.{call_name_of, kind_of}
-use Rattle.io_script.specs.GrammarLines.{extent_of, file_cause, file_named, file_with, has_words, is_wrong, mode_of, place_of, with_extent_at, with_file}
+use Rattle.io_script.specs.GrammarLines.{extent_of, file_cause, file_named, file_with, has_words, is_wrong, mode_of, place_of, with_extent_at, with_file, with_size_at}
 use Rattle.io_script.specs.GrammarNumbers.{is_name, is_name_byte as is_letter, number_in, value_of}
 use Rattle.io_script.specs.GrammarWords.{Fields, Word, fields_of, is_kept, pieces, words}
 use Rattle.io_script.specs.OneReading.{NamesFiles, is_name_byte}
@@ -23,7 +23,7 @@ use Rattle.io_script.specs.declared.read.cause.Cause.{Cause}
 use Rattle.io_script.specs.declared.read.cause.Cause.TheVariants.{NoEnd, BadWord, BadOrder, BadCount, BadNumber, BadName, TooMuch}
 use Rattle.io_script.specs.declared.read.kinds.CallName.{CallName}
 use Rattle.io_script.specs.declared.read.kinds.LineKind.{LineKind}
-use Rattle.io_script.specs.declared.read.kinds.LineKind.TheVariants.{Header, Device, Folio, File, Extent, Data, Fault, Phase, Call, Unknown}
+use Rattle.io_script.specs.declared.read.kinds.LineKind.TheVariants.{Header, Device, Folio, Grain, File, Size, Extent, Data, Fault, Phase, Call, Unknown}
 use Rattle.io_script.proofs.Walking.{so_far-piece}
 
 -- names that could be those of a script with these files
@@ -114,6 +114,8 @@ kind_line : (kind : LineKind) (s : SoFar) (w : Fields) → cause_by_kind kind s 
 kind_line Header s w none h = h
 kind_line Device s w none h = h
 kind_line Folio s w none h = h
+kind_line Grain s w none h = h
+kind_line Size s w none h = same_count s.names s.files (with_size_at s.files (file_named s w.second) (value_of w.third)) (length-set s.files (file_named s w.second) _) h
 kind_line File s w none h = file_line s w none h
 kind_line Extent s w none h = same_count s.names s.files (with_extent_at s.files (file_named s w.second) (extent_of w)) (length-set s.files (file_named s w.second) _) h
 kind_line Data s w none h = h
@@ -129,7 +131,7 @@ no_cause-either (Some cause) p e = absurd (cc)
 kept_line : (s : SoFar) (w : Fields) → kind_cause s w ≡ None → AreNamed s → AreNamed (with_line s w)
 kept_line s w none h = by_test (is_header_next s.stage) none
   where
-    by_test : (t : Bool) → cond t None (cause_by_kind (kind_of w.first) s w) ≡ None → AreNamed (cond t (with_header s) (with_kind (kind_of w.first) s w))
+    by_test : (t : Bool) → cond t None (cause_by_kind (kind_of w.first) s w) ≡ None → AreNamed (cond t (with_header s w) (with_kind (kind_of w.first) s w))
     by_test true e = h
     by_test false e = kind_line (kind_of w.first) s w e h
 

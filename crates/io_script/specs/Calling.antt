@@ -1,7 +1,7 @@
 use Rattle.std.specs.Prelude.{◌≡◌, ℕ, ◌+◌, ◌≤◌, Bool, true, false, ◌||◌, nat_le, nat_lt, ◌*◌, ◌<◌, [], ◌∷◌, ◌++◌, min, length, Option, Some, None}
 use Rattle.io_model.specs.declared.script.Call.{Call}
-use Rattle.io_script.specs.GrammarCalls.{shape_of, sizes_of, read_by, written_by, asked_in, length_in, blocks_between, pages_of, blocks_named}
-use Rattle.io_script.specs.GrammarLines.{is_no_file, file_named}
+use Rattle.io_script.specs.GrammarCalls.{shape_of, sizes_of, read_by, written_by, asked_in, met_by, pages_of, blocks_named}
+use Rattle.io_script.specs.GrammarLines.{is_no_file, file_named, has_size}
 use Rattle.io_script.specs.GrammarNumbers.{value_of}
 use Rattle.io_script.specs.GrammarWords.{Fields}
 use Rattle.io_script.specs.SoFar.{SoFar, file_at}
@@ -11,7 +11,7 @@ use Rattle.io_script.specs.declared.read.kinds.CallName.{CallName}
 
 -- the blocks that all data calls meet with one more call, of a file of so many blocks
 abbrev pub met_with : SoFar → CallName → Fields → ℕ → ℕ
-met_with s name w blocks = s.met + blocks_between s.geometry.block_size (value_of w.fourth) (min (value_of w.fourth + length_in name w) (blocks * s.geometry.block_size))
+met_with s name w blocks = s.met + met_by name s.geometry.block_size blocks w
 
 -- with one more call of a file of so many blocks a limit is passed
 abbrev pub passes : SoFar → CallName → Fields → ℕ → Bool
@@ -43,7 +43,7 @@ IsTotals s name w blocks (Some t) = AreTotals s name w blocks t
 abbrev pub with_one_call : SoFar → Call → Totals → SoFar
 with_one_call s call t = record s { calls = s.calls ++ call ∷ []; read = t.read; written = t.written; met = t.met; pages = t.pages }
 
--- a file that a word names: its place, its mode and its blocks; or the word names none
+-- a file that a word names: its place, its mode, its blocks and whether it has a size; or the word names none
 abbrev pub IsNamed : SoFar → Fields → Option NamedFile → Type 0
 IsNamed s w None = is_no_file s w.third ≡ true
-IsNamed s w (Some f) = (is_no_file s w.third ≡ false) × (f.place ≡ file_named s w.third) × (f.mode ≡ (file_at s.files (file_named s w.third)).mode) × (f.blocks ≡ blocks_named s w) × (f.place < length s.names)
+IsNamed s w (Some f) = (is_no_file s w.third ≡ false) × (f.place ≡ file_named s w.third) × (f.mode ≡ (file_at s.files (file_named s w.third)).mode) × (f.blocks ≡ blocks_named s w) × (f.sized ≡ has_size (file_at s.files (file_named s w.third))) × (f.place < length s.names)

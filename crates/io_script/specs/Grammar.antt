@@ -1,11 +1,11 @@
-use Rattle.std.specs.Prelude.{◌≡◌, ℕ, Bool, not, ◌&&◌, nat_lt, ◌+◌, List, [], ◌∷◌, ◌++◌, Option, Some, None, ⊤, length, codes, map, if◌then◌else◌}
+use Rattle.std.specs.Prelude.{◌≡◌, ℕ, Bool, not, ◌&&◌, ◌||◌, nat_lt, ◌+◌, List, [], ◌∷◌, ◌++◌, Option, Some, None, ⊤, length, codes, map, if◌then◌else◌}
 use Rattle.std.specs.List.{filter, fold}
 use Rattle.std.specs.Str.{bytes_eq}
 use Rattle.io_model.specs.declared.script.Script.{Script}
 use Rattle.io_script.specs.Causes.{first_of, or_else}
 use Rattle.io_script.specs.GrammarCalls.{call_cause, with_call}
 use Rattle.io_script.specs.GrammarKinds.{kind_of}
-use Rattle.io_script.specs.GrammarLines.{has_words, device_cause, with_device, folio_cause, with_folio, file_cause, with_file, extent_cause, with_extent, data_cause, with_data, fault_cause, with_fault, phase_cause, with_phase}
+use Rattle.io_script.specs.GrammarLines.{has_words, device_cause, with_device, folio_cause, with_folio, grain_cause, with_grain, size_cause, with_size, file_cause, with_file, extent_cause, with_extent, data_cause, with_data, fault_cause, with_fault, phase_cause, with_phase}
 use Rattle.io_script.specs.GrammarWords.{Word, Fields, fields_of, words, pieces, is_empty, is_kept, has_bad_byte}
 use Rattle.io_script.specs.SoFar.{SoFar, nothing, script_so_far, is_header_next, may_begin}
 use Rattle.io_script.specs.declared.read.cause.Cause.{Cause}
@@ -13,7 +13,7 @@ use Rattle.io_script.specs.declared.read.cause.Cause.TheVariants.{NoHeader, BadB
 use Rattle.io_script.specs.declared.read.cause.ScriptFault.{ScriptFault}
 use Rattle.io_script.specs.declared.read.cause.ScriptFault.TheVariants.{Refused, NoMemory}
 use Rattle.io_script.specs.declared.read.kinds.LineKind.{LineKind}
-use Rattle.io_script.specs.declared.read.kinds.LineKind.TheVariants.{Header, Device, Folio, File, Extent, Data, Fault, Phase, Call, Unknown}
+use Rattle.io_script.specs.declared.read.kinds.LineKind.TheVariants.{Header, Device, Folio, Grain, File, Size, Extent, Data, Fault, Phase, Call, Unknown}
 use Rattle.io_script.specs.declared.read.stage.Stage.{Stage}
 use Rattle.io_script.specs.declared.read.stage.Stage.TheVariants as stage
 
@@ -21,16 +21,22 @@ use Rattle.io_script.specs.declared.read.stage.Stage.TheVariants as stage
 abbrev pub TEXT_LIMIT : ℕ
 TEXT_LIMIT = 16777216
 
--- iomap 1
+-- the second version, which has a grain line
+abbrev pub is_second : Word → Bool
+is_second word = bytes_eq word (codes "2")
+
+-- iomap 1, or iomap 2
 abbrev pub is_header : Fields → Bool
-is_header w = has_words 2 w && (bytes_eq w.first (codes "iomap") && bytes_eq w.second (codes "1"))
+is_header w = has_words 2 w && (bytes_eq w.first (codes "iomap") && (bytes_eq w.second (codes "1") || is_second w.second))
 
 -- the causes that a line has for its kind
 abbrev pub cause_by_kind : LineKind → SoFar → Fields → Option Cause
 cause_by_kind Header s w = Some BadOrder
 cause_by_kind Device s w = device_cause s w
 cause_by_kind Folio s w = folio_cause s w
+cause_by_kind Grain s w = grain_cause s w
 cause_by_kind File s w = file_cause s w
+cause_by_kind Size s w = size_cause s w
 cause_by_kind Extent s w = extent_cause s w
 cause_by_kind Data s w = data_cause s w
 cause_by_kind Fault s w = fault_cause s w
@@ -69,7 +75,9 @@ abbrev pub with_kind : LineKind → SoFar → Fields → SoFar
 with_kind Header s w = s
 with_kind Device s w = with_device s w
 with_kind Folio s w = with_folio s w
+with_kind Grain s w = with_grain s w
 with_kind File s w = with_file s w
+with_kind Size s w = with_size s w
 with_kind Extent s w = with_extent s w
 with_kind Data s w = with_data s w
 with_kind Fault s w = with_fault s w
@@ -77,12 +85,12 @@ with_kind Phase s w = with_phase s
 with_kind Call s w = with_call s w
 with_kind Unknown s w = s
 
-abbrev pub with_header : SoFar → SoFar
-with_header s = record s { stage = stage.Device }
+abbrev pub with_header : SoFar → Fields → SoFar
+with_header s w = record s { stage = stage.Device; is_fine = is_second w.second }
 
 -- what the lines say with one more kept line
 abbrev pub with_line : SoFar → Fields → SoFar
-with_line s w = if is_header_next s.stage then with_header s else with_kind (kind_of w.first) s w
+with_line s w = if is_header_next s.stage then with_header s w else with_kind (kind_of w.first) s w
 
 -- what the lines say with one more line, which may be kept or not
 abbrev pub next_said : SoFar → List ℕ → SoFar

@@ -2,12 +2,13 @@ use Rattle.std.specs.Prelude.{ℕ, Bool, true, false, not, ◌&&◌, ◌||◌, n
 use Rattle.std.specs.List.{list_all, sum}
 use Rattle.iob_base.specs.declared.stamp.Mode.{Mode}
 use Rattle.iob_base.specs.declared.stamp.Mode.TheVariants.{Cached, Dax}
+use Rattle.io_model.specs.declared.file.FileSpec.{FileSpec}
 use Rattle.io_model.specs.declared.script.Call.{Call}
 use Rattle.io_model.specs.declared.script.Verb.{Verb}
 use Rattle.io_model.specs.declared.script.Verb.TheVariants as verb
 use Rattle.io_script.specs.Causes.{first_of}
 use Rattle.io_script.specs.GrammarKinds.{call_name_of}
-use Rattle.io_script.specs.GrammarLines.{has_words, is_wrong, is_no_file, file_named}
+use Rattle.io_script.specs.GrammarLines.{has_words, is_wrong, is_no_file, file_named, has_size}
 use Rattle.io_script.specs.GrammarNumbers.{number_in, is_number, value_of, is_segment, segment_length, segment_bytes, parts}
 use Rattle.io_script.specs.GrammarWords.{Word, Fields}
 use Rattle.io_script.specs.SoFar.{SoFar, may_call, file_at}
@@ -15,8 +16,8 @@ use Rattle.io_script.specs.declared.read.cause.Cause.{Cause}
 use Rattle.io_script.specs.declared.read.cause.Cause.TheVariants.{BadWord, BadOrder, BadCount, BadNumber, BadBytes, BadName, BadMode, TooMuch}
 use Rattle.io_script.specs.declared.read.kinds.CallName.{CallName}
 use Rattle.io_script.specs.declared.read.kinds.Shape.{Shape}
-use Rattle.io_script.specs.declared.read.kinds.Shape.TheVariants.{Reading, Writing, Ranging, Bare}
-use Rattle.io_script.specs.declared.read.kinds.CallName.TheVariants.{Pread, Pwrite, Dread, Dwrite, Xread, Xwrite, Zero, Punch, Alloc, Wb, Sync, Drop}
+use Rattle.io_script.specs.declared.read.kinds.Shape.TheVariants.{Reading, Writing, Ranging, Sizing, Bare}
+use Rattle.io_script.specs.declared.read.kinds.CallName.TheVariants.{Pread, Pwrite, Dread, Dwrite, Xread, Xwrite, Zero, Punch, Alloc, Wb, Sync, Drop, Trunc}
 
 abbrev pub shape_of : CallName → Shape
 shape_of Pread = Reading
@@ -31,9 +32,11 @@ shape_of Alloc = Ranging
 shape_of Wb = Ranging
 shape_of Sync = Bare
 shape_of Drop = Bare
+shape_of Trunc = Sizing
 
 abbrev pub words_of_shape : Shape → ℕ
 words_of_shape Bare = 3
+words_of_shape Sizing = 4
 words_of_shape _ = 5
 
 -- the numbers after the name are numbers
@@ -41,6 +44,7 @@ abbrev pub has_numbers : Shape → Fields → Bool
 has_numbers Reading w = is_number w.fourth && list_all is_number (parts w.fifth)
 has_numbers Writing w = is_number w.fourth
 has_numbers Ranging w = is_number w.fourth && is_number w.fifth
+has_numbers Sizing w = is_number w.fourth
 has_numbers Bare w = true
 
 -- the segments are at most 16, and those of bytes are of their form
@@ -48,6 +52,7 @@ abbrev pub has_segments : Shape → Fields → Bool
 has_segments Reading w = nat_le (length (parts w.fifth)) 16
 has_segments Writing w = nat_le (length (parts w.fifth)) 16 && list_all is_segment (parts w.fifth)
 has_segments Ranging w = true
+has_segments Sizing w = true
 has_segments Bare w = true
 
 -- the lengths of the segments; a call without segments has none
@@ -55,17 +60,29 @@ abbrev pub sizes_of : Shape → Word → List ℕ
 sizes_of Reading word = map value_of (parts word)
 sizes_of Writing word = map segment_length (parts word)
 sizes_of Ranging word = []
+sizes_of Sizing word = []
 sizes_of Bare word = []
 
 -- a call with segments is allowed on a file of this mode
-abbrev pub is_allowed : CallName → Mode → Bool
-is_allowed Pread Dax = false
-is_allowed Pwrite Dax = false
-is_allowed Dread Dax = false
-is_allowed Dwrite Dax = false
-is_allowed Xread Cached = false
-is_allowed Xwrite Cached = false
-is_allowed _ _ = true
+abbrev pub is_of_mode : CallName → Mode → Bool
+is_of_mode Pread Dax = false
+is_of_mode Pwrite Dax = false
+is_of_mode Dread Dax = false
+is_of_mode Dwrite Dax = false
+is_of_mode Xread Cached = false
+is_of_mode Xwrite Cached = false
+is_of_mode _ _ = true
+
+-- a cut is allowed on a file that has a size, and a direct call on one that has none
+abbrev pub is_of_size : CallName → Bool → Bool
+is_of_size Trunc sized = sized
+is_of_size Dread sized = not sized
+is_of_size Dwrite sized = not sized
+is_of_size _ sized = true
+
+-- the call is allowed on this file
+abbrev pub is_allowed : CallName → FileSpec → Bool
+is_allowed name f = is_of_mode name f.mode && is_of_size name (has_size f)
 
 abbrev pub is_direct_name : CallName → Bool
 is_direct_name Dread = true
@@ -77,6 +94,11 @@ abbrev pub is_zeroing_name : CallName → Bool
 is_zeroing_name Zero = true
 is_zeroing_name Punch = true
 is_zeroing_name _ = false
+
+-- a call that cuts its file
+abbrev pub is_cutting_name : CallName → Bool
+is_cutting_name Trunc = true
+is_cutting_name _ = false
 
 -- of the bytes that the segments of a call ask, those that it reads, and those that it writes
 abbrev pub read_by : Shape → ℕ → ℕ
@@ -99,9 +121,13 @@ length_in name w = if is_zeroing_name name then value_of w.fifth else asked_in n
 abbrev pub blocks_between : ℕ → ℕ → ℕ → ℕ
 blocks_between size low high = if nat_lt low high then (high - 1) / size - low / size + 1 else 0
 
+-- where the range of a data call ends in a file of so many blocks: a cut goes from its size to the file's end
+abbrev pub end_in : CallName → ℕ → ℕ → Fields → ℕ
+end_in name size blocks w = if is_cutting_name name then blocks * size else min (value_of w.fourth + length_in name w) (blocks * size)
+
 -- the blocks of a file that a data call meets, cut at the file's end
 abbrev pub met_by : CallName → ℕ → ℕ → Fields → ℕ
-met_by name size blocks w = blocks_between size (value_of w.fourth) (min (value_of w.fourth + length_in name w) (blocks * size))
+met_by name size blocks w = blocks_between size (value_of w.fourth) (end_in name size blocks w)
 
 -- the user pages of a direct call: each segment has pages of its own
 abbrev pub pages_for : ℕ → List ℕ → ℕ
@@ -131,7 +157,7 @@ named_cause s name w = first_of (
     ∷ (not (is_some (number_in 0 15 w.first) && has_numbers (shape_of name) w), BadNumber)
     ∷ (not (has_segments (shape_of name) w), BadBytes)
     ∷ (is_no_file s w.third, BadName)
-    ∷ (not (is_allowed name (file_at s.files (file_named s w.third)).mode), BadMode)
+    ∷ (not (is_allowed name (file_at s.files (file_named s w.third))), BadMode)
     ∷ (is_too_much s name w, TooMuch)
     ∷ [])
 
@@ -164,6 +190,7 @@ verb_of Alloc off word = verb.Alloc off (value_of word)
 verb_of Wb off word = verb.Wb off (value_of word)
 verb_of Sync off word = verb.Sync
 verb_of Drop off word = verb.Drop
+verb_of Trunc off word = verb.Trunc off
 
 abbrev pub call_with : SoFar → CallName → Fields → Call
 call_with s name w = record {

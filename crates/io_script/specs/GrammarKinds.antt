@@ -4,9 +4,9 @@ use Rattle.std.specs.Str.{bytes_eq}
 use Rattle.io_script.specs.GrammarNumbers.{is_digit}
 use Rattle.io_script.specs.GrammarWords.{Word}
 use Rattle.io_script.specs.declared.read.kinds.CallName.{CallName}
-use Rattle.io_script.specs.declared.read.kinds.CallName.TheVariants.{Pread, Pwrite, Dread, Dwrite, Xread, Xwrite, Zero, Punch, Alloc, Wb, Sync, Drop}
+use Rattle.io_script.specs.declared.read.kinds.CallName.TheVariants.{Pread, Pwrite, Dread, Dwrite, Xread, Xwrite, Zero, Punch, Alloc, Wb, Sync, Drop, Trunc}
 use Rattle.io_script.specs.declared.read.kinds.LineKind.{LineKind}
-use Rattle.io_script.specs.declared.read.kinds.LineKind.TheVariants.{Header, Device, Folio, File, Extent, Data, Fault, Phase, Call, Unknown}
+use Rattle.io_script.specs.declared.read.kinds.LineKind.TheVariants.{Header, Device, Folio, Grain, File, Size, Extent, Data, Fault, Phase, Call, Unknown}
 
 abbrev pub is_all_digits : Word → Bool
 is_all_digits word = list_all is_digit word
@@ -23,7 +23,9 @@ kind_of word =
     else (if bytes_eq word (codes "iomap") then Header
     else (if bytes_eq word (codes "dev") then Device
     else (if bytes_eq word (codes "folio") then Folio
-    else Unknown))))))))
+    else (if bytes_eq word (codes "grain") then Grain
+    else (if bytes_eq word (codes "size") then Size
+    else Unknown))))))))))
 
 -- the calls that move bytes between their caller and a file
 abbrev pub moving_name_of : Word → Option CallName
@@ -45,4 +47,5 @@ call_name_of word =
     else (if bytes_eq word (codes "wb") then Some Wb
     else (if bytes_eq word (codes "sync") then Some Sync
     else (if bytes_eq word (codes "drop") then Some Drop
-    else moving_name_of word)))))
+    else (if bytes_eq word (codes "trunc") then Some Trunc
+    else moving_name_of word))))))

@@ -1,7 +1,7 @@
-use Rattle.std.specs.Prelude.{ℕ, Bool, not, ◌&&◌, ◌||◌, ◌==◌, nat_le, nat_lt, ◌+◌, ◌*◌, List, [], ◌∷◌, ◌++◌, Option, Some, None, length, codes, is_some, unwrap_or, position, slice_set, if◌then◌else◌}
+use Rattle.std.specs.Prelude.{ℕ, Bool, true, false, not, ◌&&◌, ◌||◌, ◌==◌, nat_le, nat_lt, ◌+◌, ◌*◌, List, [], ◌∷◌, ◌++◌, Option, Some, None, length, codes, is_some, unwrap_or, position, slice_set, if◌then◌else◌}
 use Rattle.std.specs.Str.{bytes_eq}
-use Rattle.iob_base.specs.Geometry.{is_block_size, is_folio_blocks}
-use Rattle.iob_base.specs.Layout.{Layout, layout}
+use Rattle.iob_base.specs.Geometry.{is_block_size, is_folio_blocks, is_grain}
+use Rattle.iob_base.specs.Layout.{Layout, layout, layout_with_grain}
 use Rattle.iob_base.specs.declared.stamp.Mode.{Mode}
 use Rattle.iob_base.specs.declared.stamp.Mode.TheVariants.{Cached, Dax}
 use Rattle.io_model.specs.declared.file.Extent.{Extent}
@@ -12,12 +12,12 @@ use Rattle.io_script.specs.Causes.{first_of}
 use Rattle.io_script.specs.GrammarNumbers.{number_in, is_number, value_of, is_name, fill_in, is_segment, segment_length, segment_bytes}
 use Rattle.io_script.specs.GrammarWords.{Word, Fields, is_empty}
 use Rattle.io_script.specs.Marks.{some_from}
-use Rattle.io_script.specs.SoFar.{SoFar, is_device_next, is_folio_next, may_describe, may_begin, file_at, is_taken, is_placed, is_given}
+use Rattle.io_script.specs.SoFar.{SoFar, is_device_next, is_folio_next, is_grain_next, may_describe, may_begin, file_at, is_taken, is_placed, is_given}
 use Rattle.io_script.specs.declared.read.cause.Cause.{Cause}
-use Rattle.io_script.specs.declared.read.cause.Cause.TheVariants.{BadWord, BadOrder, BadCount, BadNumber, BadBytes, BadName, BadBlock, Overlap, TooMuch}
+use Rattle.io_script.specs.declared.read.cause.Cause.TheVariants.{BadWord, BadOrder, BadCount, BadNumber, BadBytes, BadName, BadBlock, Overlap, BadMode, TooMuch}
 use Rattle.io_script.specs.declared.read.kinds.State.{State}
 use Rattle.io_script.specs.declared.read.kinds.State.TheVariants.{Written, Fresh}
-use Rattle.io_script.specs.declared.read.stage.Stage.TheVariants.{Folio, Files, Calls}
+use Rattle.io_script.specs.declared.read.stage.Stage.TheVariants.{Folio, Grain, Files, Calls}
 
 abbrev pub has_words : ℕ → Fields → Bool
 has_words n w = w.count == n
@@ -51,7 +51,18 @@ folio_cause s w = first_of (
     ∷ [])
 
 abbrev pub with_folio : SoFar → Fields → SoFar
-with_folio s w = record s { stage = Files; geometry = layout s.geometry.block_size (value_of w.second) }
+with_folio s w = record s { stage = if s.is_fine then Grain else Files; geometry = layout s.geometry.block_size (value_of w.second) }
+
+-- grain <bytes>
+abbrev pub grain_cause : SoFar → Fields → Option Cause
+grain_cause s w = first_of (
+    (not (is_grain_next s.stage), BadOrder)
+    ∷ (not (has_words 2 w), BadCount)
+    ∷ (not (is_grain s.geometry.block_size (value_of w.second)), BadNumber)
+    ∷ [])
+
+abbrev pub with_grain : SoFar → Fields → SoFar
+with_grain s w = record s { stage = Files; geometry = layout_with_grain s.geometry.block_size s.geometry.folio_blocks (value_of w.second) }
 
 -- the word of a mode, and the mode that it says
 abbrev pub mode_of : Word → Option Mode
@@ -137,6 +148,34 @@ with_one_extent s i e = record s { files = with_extent_at s.files i e }
 
 abbrev pub with_extent : SoFar → Fields → SoFar
 with_extent s w = with_one_extent s (file_named s w.second) (extent_of w)
+
+-- the file has a size
+abbrev pub has_size : FileSpec → Bool
+has_size f = is_some f.size
+
+abbrev pub is_dax : Mode → Bool
+is_dax Dax = true
+is_dax Cached = false
+
+-- size <name> <bytes>
+abbrev pub size_cause : SoFar → Fields → Option Cause
+size_cause s w = first_of (
+    (not (may_describe s.stage), BadOrder)
+    ∷ (not (has_words 3 w), BadCount)
+    ∷ (not (is_number w.third), BadNumber)
+    ∷ (is_no_file s w.second || has_size (file_at s.files (file_named s w.second)), BadName)
+    ∷ (nat_lt ((file_at s.files (file_named s w.second)).blocks * s.geometry.block_size) (value_of w.third), BadBlock)
+    ∷ (is_dax (file_at s.files (file_named s w.second)).mode, BadMode)
+    ∷ [])
+
+abbrev pub with_size_at : List FileSpec → ℕ → ℕ → List FileSpec
+with_size_at files i n = slice_set files i (record (file_at files i) { size = Some n })
+
+abbrev pub with_one_size : SoFar → ℕ → ℕ → SoFar
+with_one_size s i n = record s { files = with_size_at s.files i n }
+
+abbrev pub with_size : SoFar → Fields → SoFar
+with_size s w = with_one_size s (file_named s w.second) (value_of w.third)
 
 -- data <dev> <segment>
 abbrev pub data_cause : SoFar → Fields → Option Cause

@@ -16,6 +16,9 @@ use Rattle.io_model.specs.declared.file.Extent.{Extent}
 use Rattle.io_model.specs.declared.file.FileEnd.{FileEnd}
 use Rattle.io_model.specs.declared.file.Kind.{Kind}
 use Rattle.io_model.specs.declared.file.Kind.TheVariants.{Hole, Delalloc, Unwritten, Mapped}
+use Rattle.io_model.specs.declared.file.SizeMark.{SizeMark}
+use Rattle.io_model.specs.declared.file.SizeMark.TheVariants.{See, Grow, Cut}
+use Rattle.io_model.specs.declared.file.SizeStamp.{SizeStamp}
 use Rattle.io_model.specs.declared.run.CallEnd.{CallEnd}
 use Rattle.io_model.specs.declared.run.LaneEnd.{LaneEnd}
 use Rattle.io_model.specs.declared.run.Run.{Run}
@@ -71,8 +74,22 @@ IsPageInRange (Some page) = IsBytes page.bytes
 abbrev pub IsBlockInRange : BlockEnd → Type 0
 IsBlockInRange block = IsSectorInRange block.sector × IsPageInRange block.dirty × All (λ st. IsWord st.call) block.journal
 
+abbrev pub IsSizeInRange : Option ℕ → Type 0
+IsSizeInRange None = Unit {0}
+IsSizeInRange (Some size) = IsWord size
+
+abbrev pub IsSizeMarkInRange : SizeMark → Type 0
+IsSizeMarkInRange (See found) = IsWord found
+IsSizeMarkInRange (Grow to) = IsWord to
+IsSizeMarkInRange (Cut to) = IsWord to
+
+abbrev pub IsSizeStampInRange : SizeStamp → Type 0
+IsSizeStampInRange st = IsWord st.call × IsSizeMarkInRange st.mark
+
 abbrev pub IsFileInRange : FileEnd → Type 0
-IsFileInRange end = All IsExtentInRange end.extents × All IsBlockInRange end.blocks × IsWord (length end.blocks)
+IsFileInRange end =
+    All IsExtentInRange end.extents × All IsBlockInRange end.blocks × IsWord (length end.blocks)
+    × IsSizeInRange end.size × All IsSizeStampInRange end.sizes
 
 abbrev pub IsLaneInRange : LaneEnd → Type 0
 IsLaneInRange lane = IsWord lane.ops × IsWord lane.faults

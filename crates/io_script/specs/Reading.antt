@@ -10,12 +10,13 @@ use Rattle.io_script.specs.declared.read.reader.LineFault.{LineFault}
 use Rattle.io_script.specs.declared.read.reader.LineFault.TheVariants.{Because, NoMemory}
 use Rattle.io_script.specs.declared.read.reader.Reader.{Reader}
 use Rattle.io_script.specs.declared.read.stage.Stage.{Stage}
-use Rattle.io_script.specs.declared.read.stage.Stage.TheVariants.{Header, Device, Folio, Files, Calls}
+use Rattle.io_script.specs.declared.read.stage.Stage.TheVariants.{Header, Device, Folio, Grain, Files, Calls}
 
 -- what a reader has read
 abbrev pub said : Reader → SoFar
 said r = record {
   stage = r.stage;
+  is_fine = r.is_fine;
   geometry = r.geometry;
   device_blocks = r.device_blocks;
   fill = r.fill;
@@ -45,6 +46,7 @@ abbrev pub is_early : Stage → Bool
 is_early Header = true
 is_early Device = true
 is_early Folio = true
+is_early Grain = true
 is_early Files = false
 is_early Calls = false
 

@@ -9,11 +9,13 @@ use Rattle.io_model.specs.declared.script.Call.{Call}
 use Rattle.io_model.specs.declared.script.Script.{Script}
 use Rattle.io_script.specs.GrammarWords.{Word}
 use Rattle.io_script.specs.declared.read.stage.Stage.{Stage}
-use Rattle.io_script.specs.declared.read.stage.Stage.TheVariants.{Header, Device, Folio, Files, Calls}
+use Rattle.io_script.specs.declared.read.stage.Stage.TheVariants.{Header, Device, Folio, Grain, Files, Calls}
 
 -- what the kept lines so far say. Before there is a device line the sizes say nothing.
 pub record SoFar : Type 0 where
   pub stage : Stage
+  -- the header asks for a grain line
+  pub is_fine : Bool
   pub geometry : Layout
   pub device_blocks : ℕ
   pub fill : ℕ
@@ -35,6 +37,7 @@ pub record SoFar : Type 0 where
 abbrev pub nothing : SoFar
 nothing = record {
   stage = Header;
+  is_fine = false;
   geometry = layout 16 1;
   device_blocks = 0;
   fill = 0;
@@ -75,6 +78,10 @@ is_device_next _ = false
 abbrev pub is_folio_next : Stage → Bool
 is_folio_next Folio = true
 is_folio_next _ = false
+
+abbrev pub is_grain_next : Stage → Bool
+is_grain_next Grain = true
+is_grain_next _ = false
 
 -- lines of what there is before the first call may stand
 abbrev pub may_describe : Stage → Bool

@@ -6,7 +6,11 @@ use Rattle.io_script.specs.declared.read.cause.Cause.{Cause}
 abbrev pub small : List ℕ → List ℕ
 small more = codes "iomap 1\ndev 16 8 ee\nfolio 4\n" ++ more
 
--- the same with a cached file of four blocks, and the line of its first phase
+-- the same in the second version, with blocks of 32 bytes, up to the place of the grain line
+abbrev pub fine : List ℕ → List ℕ
+fine more = codes "iomap 2\ndev 32 8 ee\nfolio 4\n" ++ more
+
+-- the first of these with a cached file of four blocks, and the line of its first phase
 abbrev pub with_file : List ℕ → List ℕ
 with_file more = small (codes "file f cached 4\nphase\n" ++ more)
 

@@ -11,6 +11,8 @@ use Rattle.io_model.specs.Kinds.{kind_at, mapped_number}
 use Rattle.io_model.specs.declared.file.BlockEnd.{BlockEnd}
 use Rattle.io_model.specs.declared.file.Extent.{Extent}
 use Rattle.io_model.specs.declared.file.FileEnd.{FileEnd}
+use Rattle.io_model.specs.declared.file.SizeMark.{SizeMark}
+use Rattle.io_model.specs.declared.file.SizeStamp.{SizeStamp}
 use Rattle.io_model.specs.declared.run.CallEnd.{CallEnd}
 use Rattle.io_model.specs.declared.run.LaneEnd.{LaneEnd}
 use Rattle.io_model.specs.declared.run.Run.{Run}
@@ -36,6 +38,10 @@ told_pages verb pages = if is_direct verb then pages else []
 -- the stamps of a block, each as the number of its call and its mark
 abbrev pub told_stamps : List Stamp → List (ℕ × Mark)
 told_stamps stamps = map (λ st. (st.call, st.mark)) stamps
+
+-- what calls did at the size of a file, each as the number of the call and its mark
+abbrev pub told_sizes : List SizeStamp → List (ℕ × SizeMark)
+told_sizes stamps = map (λ st. (st.call, st.mark)) stamps
 
 -- the bytes of a page that is dirty
 abbrev pub told_page : Option Page → Option (List ℕ)
@@ -81,6 +87,9 @@ dirty_bytes_of end = map (λ block. told_page block.dirty) end.blocks
 abbrev pub image_of : FileEnd → List (Option (List ℕ))
 image_of end = image_from end.extents 0 end.blocks
 
+abbrev pub sizes_of : FileEnd → List (ℕ × SizeMark)
+sizes_of end = told_sizes end.sizes
+
 -- two runs of a script are the same in all that a text tells
 pub record SaysTheSame (script : Script) (image : Bool) (one other : Run) : Type 0 where
   pub replies : told_replies script one ≡ told_replies script other
@@ -90,6 +99,8 @@ pub record SaysTheSame (script : Script) (image : Bool) (one other : Run) : Type
   pub closes : map (λ close. told_reply Sync close.reply) one.closes ≡ map (λ close. told_reply Sync close.reply) other.closes
   pub close_bios : map (λ close. close.bios) one.closes ≡ map (λ close. close.bios) other.closes
   pub journals : map journals_of one.ends.files ≡ map journals_of other.ends.files
+  pub sizes : map (λ end. end.size) one.ends.files ≡ map (λ end. end.size) other.ends.files
+  pub turns_at_sizes : map sizes_of one.ends.files ≡ map sizes_of other.ends.files
   pub maps : map (λ end. end.extents) one.ends.files ≡ map (λ end. end.extents) other.ends.files
   pub dirty : map dirty_bytes_of one.ends.files ≡ map dirty_bytes_of other.ends.files
   pub free : length one.ends.free ≡ length other.ends.free

@@ -22,7 +22,12 @@ use iob_base::{Mark, Page, Stamp};
 use std::alloc::AllocError;
 
 /// A word, the name of a file, and a number in it.
-fn append_place(text: &mut Vec<u8>, word: &[u8], name: &[u8], number: u64) -> Result<(), AllocError>
+pub fn append_place(
+    text: &mut Vec<u8>,
+    word: &[u8],
+    name: &[u8],
+    number: u64,
+) -> Result<(), AllocError>
     ensures { OnOk result (Appends (λ rest. word.now ⋅ name.now ⋅ codes " " ⋅ decimal number ⋅ rest) text.old.items text.new.items) }
 {
     append_word(text, word)?;

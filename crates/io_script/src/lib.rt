@@ -12,6 +12,7 @@ mod ranges;
 mod read;
 mod reply;
 mod run;
+mod sizes;
 
 pub use one_reading::{scripts_name_their_files, text_has_one_reading};
 pub use ranges::{numbers_of_a_run, numbers_of_a_script};

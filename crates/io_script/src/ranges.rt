@@ -17,11 +17,16 @@ ghost use Rattle.io_script.specs.Ranges.{
   IsRunInRange,
   IsScriptInRange,
   IsSectorInRange,
+  IsSizeInRange,
+  IsSizeMarkInRange,
+  IsSizeStampInRange,
   IsStopInRange,
   IsWord,
 };
 
-use io_model::{BlockEnd, Call, CallEnd, Extent, FileEnd, Kind, LaneEnd, Run, Script};
+use io_model::{
+    BlockEnd, Call, CallEnd, Extent, FileEnd, Kind, LaneEnd, Run, Script, SizeMark, SizeStamp,
+};
 use iob_base::{Alignment, Answer, Fault, Page, Reply, Sector, Stamp, Stop};
 
 /// What of a direct call does not fit the block size.
@@ -213,11 +218,51 @@ fn numbers_of_blocks(blocks: &[BlockEnd])
     }
 }
 
+/// The size of a file, where it has one.
+fn numbers_of_size(size: Option<u64>)
+    ensures { IsSizeInRange size }
+{
+    match size {
+        None => {}
+        Some(_size) => {}
+    }
+}
+
+/// What a call did at a size.
+fn numbers_of_size_mark(mark: SizeMark)
+    ensures { IsSizeMarkInRange mark }
+{
+    match mark {
+        SizeMark::See { found: _found } => {}
+        SizeMark::Grow { to: _to } => {}
+        SizeMark::Cut { to: _to } => {}
+    }
+}
+
+/// A turn at a size.
+fn numbers_of_size_stamp(stamp: SizeStamp)
+    ensures { IsSizeStampInRange stamp }
+{
+    let _call = stamp.call;
+    numbers_of_size_mark(stamp.mark)
+}
+
+/// The turns at a size.
+fn numbers_of_size_stamps(stamps: &[SizeStamp])
+    ensures { All IsSizeStampInRange stamps.now }
+{
+    for stamp in stamps {
+        numbers_of_size_stamp(*stamp);
+    }
+}
+
 /// A file.
 fn numbers_of_file(end: &FileEnd)
     ensures { IsFileInRange end.now }
 {
     numbers_of_extents(end.extents.as_slice());
+    numbers_of_size(end.size);
+    numbers_of_size_stamps(end.sizes.as_slice());
     numbers_of_blocks(end.blocks.as_slice())
 }
 

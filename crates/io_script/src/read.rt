@@ -11,6 +11,7 @@ mod numbers;
 mod reader;
 mod script;
 mod segments;
+mod sizes;
 mod stage;
 mod told;
 mod words;

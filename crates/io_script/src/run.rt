@@ -10,6 +10,7 @@ use crate::calls::{append_calls, append_closes};
 use crate::files::{append_dirty_blocks, append_extents, append_journals};
 use crate::image::append_image;
 use crate::pieces::{append_counted, append_total, append_word};
+use crate::sizes::append_size;
 use io_model::{CallEnd, FileEnd, LaneEnd, Run, Script};
 use iob_base::Items;
 use std::alloc::{AllocError, Global};
@@ -41,6 +42,7 @@ fn append_file(
     ensures { OnOk result (Appends (file_lines image name.now end.now) text.old.items text.new.items) }
 {
     append_journals(text, name, end.blocks.as_slice())?;
+    append_size(text, name, end.size, end.sizes.as_slice())?;
     append_extents(text, name, end.extents.as_slice())?;
     append_dirty_blocks(text, name, end.blocks.as_slice())?;
     append_asked_image(text, image, name, end)

@@ -13,7 +13,7 @@ struct Check {
     written: &'static [u8],
 }
 
-const CHECKS: [Check; 29] = [
+const CHECKS: [Check; 45] = [
     Check {
         script: b"iomap 1\ndev 16 8 ee\nfolio 4\nfile f cached 1\next f 0 5 1 mapped\nphase\n0 pwrite f 2 4142\n0 pread f 0 6\n",
         status: 0,
@@ -97,7 +97,7 @@ const CHECKS: [Check; 29] = [
     Check {
         script: b"iomap 1\ndev 16 8 ee\nfolio 4\ngrain 8\n",
         status: 2,
-        written: b"refused line 4 cause 4 BadWord\n",
+        written: b"refused line 4 cause 5 BadOrder\n",
     },
     Check {
         script: b"iomap 1\ndev 16 8 ee\nfolio 4\n# no end",
@@ -159,6 +159,86 @@ const CHECKS: [Check; 29] = [
         status: 0,
         written: b"ok files 1 phases 1 calls 1\nend\n",
     },
+    Check {
+        script: b"iomap 1\ndev 16 8 ee\nfolio 4\nfile f cached 4\nsize f 5\next f 0 2 1 mapped\nphase\n0 pread f 0 16\n0 pwrite f 20 41\n0 pread f 0 24\n0 trunc f 3\n0 pread f 0 8\n",
+        status: 0,
+        written: b"ok files 1 phases 1 calls 5\nend\n",
+    },
+    Check {
+        script: b"iomap 1\ndev 16 8 ee\nfolio 4\nfile f cached 4\nsize f 5\next f 0 2 1 mapped\nphase\n0 trunc f 65\n",
+        status: 0,
+        written: b"ok files 1 phases 1 calls 1\nend\n",
+    },
+    Check {
+        script: b"iomap 2\ndev 32 8 ee\nfolio 4\ngrain 16\nfile f cached 2\next f 0 3 1 unwritten\nphase\n0 dwrite f 16 41x16\n0 pread f 0 32\n0 dread f 16 16\n0 dwrite f 8 42x16\n",
+        status: 0,
+        written: b"ok files 1 phases 1 calls 4\nend\n",
+    },
+    Check {
+        script: b"iomap 1\ndev 16 8 ee\nfolio 4\nfile f cached 4\nsize f 64\n",
+        status: 0,
+        written: b"ok files 1 phases 0 calls 0\nend\n",
+    },
+    Check {
+        script: b"iomap 1\ndev 16 8 ee\nfolio 4\nfile f cached 4\nsize f 65\n",
+        status: 2,
+        written: b"refused line 5 cause 10 BadBlock\n",
+    },
+    Check {
+        script: b"iomap 1\ndev 16 8 ee\nfolio 4\nfile f cached 4\nsize f 18446744073709551615\n",
+        status: 2,
+        written: b"refused line 5 cause 10 BadBlock\n",
+    },
+    Check {
+        script: b"iomap 1\ndev 16 8 ee\nfolio 4\nfile f cached 4\nsize f 1\nsize f 1\n",
+        status: 2,
+        written: b"refused line 6 cause 9 BadName\n",
+    },
+    Check {
+        script: b"iomap 1\ndev 16 8 ee\nfolio 4\nfile g dax 4\nsize g 64\n",
+        status: 2,
+        written: b"refused line 5 cause 12 BadMode\n",
+    },
+    Check {
+        script: b"iomap 1\ndev 16 8 ee\nfolio 4\nfile g dax 4\nsize g 65\n",
+        status: 2,
+        written: b"refused line 5 cause 10 BadBlock\n",
+    },
+    Check {
+        script: b"iomap 1\ndev 16 8 ee\nfolio 4\nfile f cached 4\nphase\n0 trunc f 0\n",
+        status: 2,
+        written: b"refused line 6 cause 12 BadMode\n",
+    },
+    Check {
+        script: b"iomap 1\ndev 16 8 ee\nfolio 4\nfile f cached 4\nsize f 0\nphase\n0 dwrite f 0 41x16\n",
+        status: 2,
+        written: b"refused line 7 cause 12 BadMode\n",
+    },
+    Check {
+        script: b"iomap 2\ndev 32 8 ee\nfolio 4\ngrain 32\n",
+        status: 0,
+        written: b"ok files 0 phases 0 calls 0\nend\n",
+    },
+    Check {
+        script: b"iomap 2\ndev 32 8 ee\nfolio 4\ngrain 64\n",
+        status: 2,
+        written: b"refused line 4 cause 7 BadNumber\n",
+    },
+    Check {
+        script: b"iomap 2\ndev 32 8 ee\nfolio 4\ngrain 24\n",
+        status: 2,
+        written: b"refused line 4 cause 7 BadNumber\n",
+    },
+    Check {
+        script: b"iomap 2\ndev 32 8 ee\nfolio 4\nphase\n",
+        status: 2,
+        written: b"refused line 4 cause 5 BadOrder\n",
+    },
+    Check {
+        script: b"iomap 2\ndev 32 8 ee\nfolio 4\n",
+        status: 2,
+        written: b"refused line 4 cause 5 BadOrder\n",
+    },
 ];
 
 // A script of one line so many times between others. In that line `#` stands for how often it stands before.
@@ -171,7 +251,7 @@ struct Long {
     written: &'static [u8],
 }
 
-const LONGS: [Long; 18] = [
+const LONGS: [Long; 20] = [
     // The limit on files.
     Long {
         before: b"iomap 1\ndev 16 8 ee\nfolio 4\n",
@@ -307,6 +387,23 @@ const LONGS: [Long; 18] = [
         after: b"0 punch f 1048575 16\n",
         status: 2,
         written: b"refused line 70 cause 13 TooMuch\n",
+    },
+    // Those that a cut meets.
+    Long {
+        before: b"iomap 1\ndev 16 8 ee\nfolio 4\nfile f cached 65536\nsize f 0\nphase\n",
+        line: b"0 trunc f 0\n",
+        times: 64,
+        after: b"0 trunc f 1048576\n",
+        status: 0,
+        written: b"ok files 1 phases 1 calls 65\nend\n",
+    },
+    Long {
+        before: b"iomap 1\ndev 16 8 ee\nfolio 4\nfile f cached 65536\nsize f 0\nphase\n",
+        line: b"0 trunc f 0\n",
+        times: 64,
+        after: b"0 trunc f 1048575\n",
+        status: 2,
+        written: b"refused line 71 cause 13 TooMuch\n",
     },
     // The limit on bytes of a script.
     Long {

@@ -9,15 +9,18 @@ use Rattle.iob_base.specs.declared.stamp.Stamp.{Stamp}
 use Rattle.io_model.specs.Finals.{sector_bytes}
 use Rattle.io_model.specs.Kinds.{kind_at, mapped_number}
 use Rattle.io_model.specs.RunText.{stamps_text, journal_line, journal_lines, map_line, map_lines, dirty_line, dirty_lines, image_line, image_lines, file_lines, files_lines}
+use Rattle.io_model.specs.SizeText.{size_stamps_text, size_lines}
 use Rattle.io_model.specs.declared.file.BlockEnd.{BlockEnd}
 use Rattle.io_model.specs.declared.file.Extent.{Extent}
 use Rattle.io_model.specs.declared.file.FileEnd.{FileEnd}
 use Rattle.io_model.specs.declared.file.Kind.{Kind}
 use Rattle.io_model.specs.declared.file.Kind.TheVariants.{Hole, Delalloc, Unwritten, Mapped}
-use Rattle.io_script.specs.Ranges.{IsWord, IsExtentInRange, IsSectorInRange, IsPageInRange, IsBlockInRange, IsFileInRange}
-use Rattle.io_script.specs.Told.{told_stamps, told_page, told_sector, image_from, dirty_bytes_of, image_of}
+use Rattle.io_model.specs.declared.file.SizeMark.{SizeMark}
+use Rattle.io_model.specs.declared.file.SizeStamp.{SizeStamp}
+use Rattle.io_script.specs.Ranges.{IsWord, IsExtentInRange, IsSectorInRange, IsPageInRange, IsBlockInRange, IsFileInRange, IsSizeInRange, IsSizeStampInRange}
+use Rattle.io_script.specs.Told.{told_stamps, told_sizes, told_page, told_sector, image_from, dirty_bytes_of, image_of}
 use Rattle.io_script.proofs.Reading.Lists.{Each, IfThere, present, lines, lines_append, each_append, each_present, length_map}
-use Rattle.io_script.proofs.Reading.Lines.{Line, journal, mapping, dirty, image, IsName, IsLawful, line_text, stamp_line, place_text}
+use Rattle.io_script.proofs.Reading.Lines.{Line, journal, sized, mapping, dirty, image, IsName, IsLawful, IsSizeTurn, line_text, stamp_line, size_stamp_line, place_text}
 use Rattle.io_script.proofs.Reading.Merged.{is_span, onto_spans, spans}
 
 -- The values
@@ -41,6 +44,13 @@ image_at name p = image name p.0 p.1
 abbrev pub journals : List ℕ → FileEnd → List Line
 journals name end = map (journal_at name) (present 0 (stamps_at end))
 
+abbrev pub sizings_of : List ℕ → Option ℕ → List (ℕ × SizeMark) → List Line
+sizings_of name None turns = []
+sizings_of name (Some n) turns = sized name n turns ∷ []
+
+abbrev pub sizings : List ℕ → FileEnd → List Line
+sizings name end = sizings_of name end.size (told_sizes end.sizes)
+
 abbrev pub mappings : List ℕ → FileEnd → List Line
 mappings name end = map (mapping name) (spans end.extents)
 
@@ -51,7 +61,7 @@ abbrev pub images : Bool → List ℕ → FileEnd → List Line
 images asked name end = if asked then map (image_at name) (present 0 (image_of end)) else []
 
 abbrev pub file_values : Bool → List ℕ → FileEnd → List Line
-file_values asked name end = journals name end ++ (mappings name end ++ (dirties name end ++ images asked name end))
+file_values asked name end = journals name end ++ (sizings name end ++ (mappings name end ++ (dirties name end ++ images asked name end)))
 
 abbrev pub files_values : Bool → List (List ℕ) → List FileEnd → List Line
 files_values asked [] ends = []
@@ -76,6 +86,17 @@ journal_lines-values : (name : List ℕ) (b : ℕ) (blocks : List BlockEnd) (res
 journal_lines-values name b [] rest = refl
 journal_lines-values name b (block ∷ blocks) rest =
     journal_line-value name b block.journal (map (λ block. some_stamps block.journal) blocks) (journal_lines name (b + 1) blocks rest) rest (journal_lines-values name (b + 1) blocks rest)
+
+size_stamps_text-lines : (sts : List SizeStamp) (rest : List ℕ) → size_stamps_text sts rest ≡ lines size_stamp_line (told_sizes sts) rest
+size_stamps_text-lines [] rest = refl
+size_stamps_text-lines (st ∷ sts) rest = ap (size_stamp_line (st.call, st.mark)) (size_stamps_text-lines sts rest)
+
+size_lines-values : (name : List ℕ) (size : Option ℕ) (sts : List SizeStamp) (rest : List ℕ)
+    → size_lines name size sts rest ≡ lines line_text (sizings_of name size (told_sizes sts)) rest
+size_lines-values name None sts rest = refl
+size_lines-values name (Some n) [] rest = refl
+size_lines-values name (Some n) (st ∷ sts) rest =
+    ap (λ t. codes "sizes " ++ (name ++ t)) (size_stamps_text-lines (st ∷ sts) (10 ∷ place_text (codes "size ") name n (10 ∷ rest)))
 
 map_line-value : (k : Kind) (name : List ℕ) (e : Extent) (es : List Extent) (more rest : List ℕ) → e.kind ≡ k
     → more ≡ lines line_text (map (mapping name) es) rest → map_line name e k more ≡ lines line_text (map (mapping name) (onto_spans e k es)) rest
@@ -128,8 +149,11 @@ file_lines-values asked name end rest =
     let dirty_part = dirty_lines-values name 0 end.blocks (if asked then image_lines name end.extents 0 end.blocks rest else rest)
     ∙ lines_join (dirties name end) (images asked name end) (if asked then image_lines name end.extents 0 end.blocks rest else rest) rest image in
     let map_part = map_lines-values name end.extents dirty_text ∙ lines_join (mappings name end) (dirties name end ++ images asked name end) dirty_text rest dirty_part in
-    journal_lines-values name 0 end.blocks (map_lines name end.extents dirty_text)
-    ∙ lines_join (journals name end) (mappings name end ++ (dirties name end ++ images asked name end)) (map_lines name end.extents dirty_text) rest map_part
+    let map_text = map_lines name end.extents dirty_text in
+    let size_part = size_lines-values name end.size end.sizes map_text
+    ∙ lines_join (sizings name end) (mappings name end ++ (dirties name end ++ images asked name end)) map_text rest map_part in
+    journal_lines-values name 0 end.blocks (size_lines name end.size end.sizes map_text)
+    ∙ lines_join (journals name end) (sizings name end ++ (mappings name end ++ (dirties name end ++ images asked name end))) (size_lines name end.size end.sizes map_text) rest size_part
 
 pub files_lines-values : (asked : Bool) (names : List (List ℕ)) (ends : List FileEnd) (rest : List ℕ) → files_lines asked names ends rest ≡ lines line_text (files_values asked names ends) rest
 files_lines-values asked [] ends rest = refl
@@ -192,16 +216,25 @@ images_lawful true name end hn h =
     each_present IsBytes IsLawful (image_at name) (2 ^ 64) (λ n x small bytes. (hn, small, bytes)) 0 (image_of end) (omega (arith, size, h.2)) (image_lawful end.extents 0 end.blocks h.1)
 images_lawful false name end hn h = tt
 
+told_sizes-words : (sts : List SizeStamp) → All IsSizeStampInRange sts → Each IsSizeTurn (told_sizes sts)
+told_sizes-words [] h = tt
+told_sizes-words (st ∷ sts) h = (All-head IsSizeStampInRange st sts h, told_sizes-words sts (All-tail IsSizeStampInRange st sts h))
+
+sizings_lawful : (name : List ℕ) (size : Option ℕ) (sts : List SizeStamp) → IsName name → IsSizeInRange size → All IsSizeStampInRange sts → Each IsLawful (sizings_of name size (told_sizes sts))
+sizings_lawful name None sts hn small turns = tt
+sizings_lawful name (Some n) sts hn small turns = ((hn, small, told_sizes-words sts turns), tt)
+
 file_lawful : (asked : Bool) (name : List ℕ) (end : FileEnd) → IsName name → IsFileInRange end → Each IsLawful (file_values asked name end)
 file_lawful asked name end hn h =
     let stamps = length_map (λ block. some_stamps block.journal) end.blocks in
     let pages = length_map (λ block. told_page block.dirty) end.blocks in
-    each_append IsLawful (journals name end) (mappings name end ++ (dirties name end ++ images asked name end))
+    each_append IsLawful (journals name end) (sizings name end ++ (mappings name end ++ (dirties name end ++ images asked name end)))
     (each_present (Each (λ st. IsWord st.0)) IsLawful (journal_at name) (2 ^ 64) (λ n x small words. (hn, small, words)) 0 (stamps_at end) (omega (arith, stamps, h.2)) (stamps_lawful end.blocks h.1))
+    (each_append IsLawful (sizings name end) (mappings name end ++ (dirties name end ++ images asked name end)) (sizings_lawful name end.size end.sizes hn h.3 h.4)
     (each_append IsLawful (mappings name end) (dirties name end ++ images asked name end) (mappings_lawful name end.extents hn h.0)
     (each_append IsLawful (dirties name end) (images asked name end)
     (each_present IsBytes IsLawful (dirty_at name) (2 ^ 64) (λ n x small bytes. (hn, small, bytes)) 0 (dirty_bytes_of end) (omega (arith, pages, h.2)) (pages_lawful end.blocks h.1))
-    (images_lawful asked name end hn h)))
+    (images_lawful asked name end hn h))))
 
 pub files_lawful : (asked : Bool) (names : List (List ℕ)) (ends : List FileEnd) → Each IsName names → All IsFileInRange ends → Each IsLawful (files_values asked names ends)
 files_lawful asked [] ends hn h = tt

@@ -7,10 +7,13 @@ use Rattle.iob_base.specs.declared.stamp.Mark.{Mark}
 use Rattle.iob_base.specs.declared.stamp.Mark.TheVariants.{Done, Landed, Missed}
 use Rattle.io_model.specs.ReplyText.{hex_text}
 use Rattle.io_model.specs.RunText.{mark_text, map_start, map_line}
+use Rattle.io_model.specs.SizeText.{size_mark_text}
 use Rattle.io_model.specs.declared.file.Extent.{Extent}
 use Rattle.io_model.specs.declared.file.Kind.{Kind}
 use Rattle.io_model.specs.declared.file.Kind.TheVariants.{Hole, Delalloc, Unwritten, Mapped}
-use Rattle.io_script.specs.Ranges.{IsWord, IsKindInRange, IsExtentInRange}
+use Rattle.io_model.specs.declared.file.SizeMark.{SizeMark}
+use Rattle.io_model.specs.declared.file.SizeMark.TheVariants.{See, Grow, Cut}
+use Rattle.io_script.specs.Ranges.{IsWord, IsKindInRange, IsExtentInRange, IsSizeMarkInRange}
 use Rattle.io_script.specs.OneReading.{is_name_byte}
 use Rattle.io_script.proofs.Reading.Lists.{heads, tails, Each, IsRead, lines, lines_one}
 use Rattle.io_script.proofs.Reading.Merged.{is_span, extent_same}
@@ -133,11 +136,84 @@ extent_one name other e f a b hx hy he hf se sf t =
     let kind = kind_one e.kind f.kind a b se sf he.2 hf.2 long.1 in
     (place.0, extent_same e f place.1 long.0 kind.0, kind.1)
 
+-- Sizes
+
+abbrev pub size_stamp_line : ℕ × SizeMark → List ℕ → List ℕ
+size_stamp_line st rest = codes " " ++ (decimal st.0 ++ size_mark_text st.1 rest)
+
+abbrev pub IsSizeTurn : ℕ × SizeMark → Type 0
+IsSizeTurn st = IsWord st.0 × IsSizeMarkInRange st.1
+
+size_mark_stops : (m : SizeMark) (a : List ℕ) → IsTrue (stops is_digit (size_mark_text m a))
+size_mark_stops (See n) a = refl
+size_mark_stops (Grow n) a = refl
+size_mark_stops (Cut n) a = refl
+
+size_mark_one : (m n : SizeMark) (a b : List ℕ) → IsSizeMarkInRange m → IsSizeMarkInRange n → IsTrue (stops is_digit a) → IsTrue (stops is_digit b)
+    → size_mark_text m a ≡ size_mark_text n b → (m ≡ n) × (a ≡ b)
+size_mark_one (See m) (See n) a b hm hn ha hb e = let same = counted_one (codes "S") m n a b hm hn ha hb e in (ap See same.0, same.1)
+size_mark_one (See m) (Grow n) a b hm hn ha hb e = let differ : 83 ≡ 71 = heads 83 71 (decimal m ++ a) (decimal n ++ b) e in absurd (omega (arith, differ))
+size_mark_one (See m) (Cut n) a b hm hn ha hb e = let differ : 83 ≡ 67 = heads 83 67 (decimal m ++ a) (decimal n ++ b) e in absurd (omega (arith, differ))
+size_mark_one (Grow m) (See n) a b hm hn ha hb e = let differ : 71 ≡ 83 = heads 71 83 (decimal m ++ a) (decimal n ++ b) e in absurd (omega (arith, differ))
+size_mark_one (Grow m) (Grow n) a b hm hn ha hb e = let same = counted_one (codes "G") m n a b hm hn ha hb e in (ap Grow same.0, same.1)
+size_mark_one (Grow m) (Cut n) a b hm hn ha hb e = let differ : 71 ≡ 67 = heads 71 67 (decimal m ++ a) (decimal n ++ b) e in absurd (omega (arith, differ))
+size_mark_one (Cut m) (See n) a b hm hn ha hb e = let differ : 67 ≡ 83 = heads 67 83 (decimal m ++ a) (decimal n ++ b) e in absurd (omega (arith, differ))
+size_mark_one (Cut m) (Grow n) a b hm hn ha hb e = let differ : 67 ≡ 71 = heads 67 71 (decimal m ++ a) (decimal n ++ b) e in absurd (omega (arith, differ))
+size_mark_one (Cut m) (Cut n) a b hm hn ha hb e = let same = counted_one (codes "C") m n a b hm hn ha hb e in (ap Cut same.0, same.1)
+
+abbrev EndsNumber : List ℕ → Type 0
+EndsNumber a = IsTrue (stops is_digit a)
+
+size_stamp_one : (s t : ℕ × SizeMark) (a b : List ℕ) → IsSizeTurn s → IsSizeTurn t → EndsNumber a → EndsNumber b → size_stamp_line s a ≡ size_stamp_line t b → (s ≡ t) × (a ≡ b)
+size_stamp_one s t a b hs ht ha hb e =
+    let number = counted_one (codes " ") s.0 t.0 (size_mark_text s.1 a) (size_mark_text t.1 b) hs.0 ht.0 (size_mark_stops s.1 a) (size_mark_stops t.1 b) e in
+    let mark = size_mark_one s.1 t.1 a b hs.1 ht.1 ha hb number.1 in
+    (ap₂ (λ n m. (n, m)) number.0 mark.0, mark.1)
+
+size_stamp_read : IsRead size_stamp_line IsSizeTurn EndsNumber
+size_stamp_read = record {
+  one = size_stamp_one;
+  begins = λ st a. refl;
+}
+
+no_size_stamp_ends : (a : List ℕ) (st : ℕ × SizeMark) (b : List ℕ) → IsSizeTurn st → size_stamp_line st b ≡ 10 ∷ a → ⊥
+no_size_stamp_ends a st b h e = let differ : 32 ≡ 10 = heads 32 10 (decimal st.0 ++ size_mark_text st.1 b) a e in omega (arith, differ)
+
+size_stamps_one : (ss ts : List (ℕ × SizeMark)) (a b : List ℕ) → Each IsSizeTurn ss → Each IsSizeTurn ts
+    → lines size_stamp_line ss (10 ∷ a) ≡ lines size_stamp_line ts (10 ∷ b) → (ss ≡ ts) × (a ≡ b)
+size_stamps_one ss ts a b hs ht e =
+    let same = lines_one size_stamp_line IsSizeTurn EndsNumber size_stamp_read ss ts (10 ∷ a) (10 ∷ b) hs ht refl refl (no_size_stamp_ends a) (no_size_stamp_ends b) e in
+    (same.0, tails 10 10 a b same.1)
+
+-- the size of a file, after the turns at it where there are any
+abbrev pub sized_text : List ℕ → ℕ → List (ℕ × SizeMark) → List ℕ → List ℕ
+sized_text name n [] rest = place_text (codes "size ") name n (10 ∷ rest)
+sized_text name n (st ∷ sts) rest = codes "sizes " ++ (name ++ lines size_stamp_line (st ∷ sts) (10 ∷ place_text (codes "size ") name n (10 ∷ rest)))
+
+sized_one : (name other : List ℕ) (m n : ℕ) (ss ts : List (ℕ × SizeMark)) (a b : List ℕ) → IsName name → IsName other → IsWord m → IsWord n → Each IsSizeTurn ss → Each IsSizeTurn ts
+    → sized_text name m ss a ≡ sized_text other n ts b → (name ≡ other) × (m ≡ n) × (ss ≡ ts) × (a ≡ b)
+sized_one name other m n [] [] a b hx hy hm hn hs ht e =
+    let place = place_one (codes "size ") name other m n (10 ∷ a) (10 ∷ b) hx hy hm hn refl refl e in
+    (place.0, place.1, refl, tails 10 10 a b place.2)
+sized_one name other m n [] (t ∷ ts) a b hx hy hm hn hs ht e = let differ : 32 ≡ 115 = ap (λ t. slice_index t 4) e in absurd (omega (arith, differ))
+sized_one name other m n (s ∷ ss) [] a b hx hy hm hn hs ht e = let differ : 115 ≡ 32 = ap (λ t. slice_index t 4) e in absurd (omega (arith, differ))
+sized_one name other m n (s ∷ ss) (t ∷ ts) a b hx hy hm hn hs ht e =
+    let names = span_one is_name_byte name other (lines size_stamp_line (s ∷ ss) (10 ∷ place_text (codes "size ") name m (10 ∷ a))) (lines size_stamp_line (t ∷ ts) (10 ∷ place_text (codes "size ") other n (10 ∷ b))) hx hy refl refl
+    (append_cancel_left (codes "sizes ") (name ++ lines size_stamp_line (s ∷ ss) (10 ∷ place_text (codes "size ") name m (10 ∷ a))) (other ++ lines size_stamp_line (t ∷ ts) (10 ∷ place_text (codes "size ") other n (10 ∷ b))) e) in
+    let turns = size_stamps_one (s ∷ ss) (t ∷ ts) (place_text (codes "size ") name m (10 ∷ a)) (place_text (codes "size ") other n (10 ∷ b)) hs ht names.1 in
+    let place = place_one (codes "size ") name other m n (10 ∷ a) (10 ∷ b) hx hy hm hn refl refl turns.1 in
+    (names.0, place.1, turns.0, tails 10 10 a b place.2)
+
+sized_letter : (name : List ℕ) (n : ℕ) (ss : List (ℕ × SizeMark)) (rest : List ℕ) → slice_index (sized_text name n ss rest) 0 ≡ 115
+sized_letter name n [] rest = refl
+sized_letter name n (s ∷ ss) rest = refl
+
 -- Lines
 
--- a line of a file: the stamps of a block, an extent that is no hole, the bytes of a dirty block, and of a mapped block
+-- a line of a file: the stamps of a block, its size with the turns at it, an extent that is no hole, the bytes of a dirty block, and of a mapped block
 pub data Line : Type 0 where
   journal : List ℕ → ℕ → List (ℕ × Mark) → Line
+  sized : List ℕ → ℕ → List (ℕ × SizeMark) → Line
   mapping : List ℕ → Extent → Line
   dirty : List ℕ → ℕ → List ℕ → Line
   image : List ℕ → ℕ → List ℕ → Line
@@ -147,12 +223,14 @@ bytes_end bytes rest = codes " " ++ (hex_text bytes ++ (10 ∷ rest))
 
 abbrev pub line_text : Line → List ℕ → List ℕ
 line_text (journal name b stamps) rest = place_text (codes "journal ") name b (lines stamp_line stamps (10 ∷ rest))
+line_text (sized name n stamps) rest = sized_text name n stamps rest
 line_text (mapping name e) rest = map_line name e e.kind rest
 line_text (dirty name b bytes) rest = place_text (codes "dirty ") name b (bytes_end bytes rest)
 line_text (image name b bytes) rest = place_text (codes "image ") name b (bytes_end bytes rest)
 
 abbrev pub IsLawful : Line → Type 0
 IsLawful (journal name b stamps) = IsName name × IsWord b × Each (λ st. IsWord st.0) stamps
+IsLawful (sized name n stamps) = IsName name × IsWord n × Each IsSizeTurn stamps
 IsLawful (mapping name e) = IsName name × IsExtentInRange e × (is_span e.kind ≡ true)
 IsLawful (dirty name b bytes) = IsName name × IsWord b × IsBytes bytes
 IsLawful (image name b bytes) = IsName name × IsWord b × IsBytes bytes
@@ -160,6 +238,7 @@ IsLawful (image name b bytes) = IsName name × IsWord b × IsBytes bytes
 -- the first letter of a line
 abbrev pub letter : Line → ℕ
 letter (journal name b stamps) = 106
+letter (sized name n stamps) = 115
 letter (mapping name e) = 109
 letter (dirty name b bytes) = 100
 letter (image name b bytes) = 105
@@ -172,6 +251,7 @@ letter-extent name e (Mapped d) rest h = refl
 
 pub letter-line : (x : Line) (rest : List ℕ) → IsLawful x → slice_index (line_text x rest) 0 ≡ letter x
 letter-line (journal name b stamps) rest h = refl
+letter-line (sized name n stamps) rest h = sized_letter name n stamps rest
 letter-line (mapping name e) rest h = letter-extent name e e.kind rest h.2
 letter-line (dirty name b bytes) rest h = refl
 letter-line (image name b bytes) rest h = refl
@@ -189,6 +269,10 @@ line_by_letter (journal name m ss) (journal other n ts) a b k hx hy e =
     let stamps = stamps_one ss ts a b hx.2 hy.2 place.2 in
     (ap (λ x. journal x m ss) place.0 ∙ ap (λ x. journal other x ss) place.1 ∙ ap (journal other n) stamps.0, stamps.1)
 line_by_letter (journal name m ss) y a b k hx hy e = absurd (omega (arith, k))
+line_by_letter (sized name m ss) (sized other n ts) a b k hx hy e =
+    let same = sized_one name other m n ss ts a b hx.0 hy.0 hx.1 hy.1 hx.2 hy.2 e in
+    (ap (λ x. sized x m ss) same.0 ∙ ap (λ x. sized other x ss) same.1 ∙ ap (sized other n) same.2, same.3)
+line_by_letter (sized name m ss) y a b k hx hy e = absurd (omega (arith, k))
 line_by_letter (mapping name x) (mapping other y) a b k hx hy e =
     let same = extent_one name other x y a b hx.0 hy.0 hx.1 hy.1 hx.2 hy.2 e in (ap₂ mapping same.0 same.1, same.2)
 line_by_letter (mapping name x) y a b k hx hy e = absurd (omega (arith, k))

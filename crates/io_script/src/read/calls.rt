@@ -1,9 +1,9 @@
 //! Call lines.
-ghost use Rattle.std.specs.Prelude.{◌≡◌, ◌≤◌, ◌+◌, ◌*◌, Some, None, true, IsTrue, IfOk, OnOk, length, min};
+ghost use Rattle.std.specs.Prelude.{◌≡◌, ◌≤◌, ◌+◌, ◌*◌, Some, None, true, IsTrue, IfOk, OnOk, length};
 ghost use Rattle.std.specs.List.{sum};
 ghost use Rattle.iob_base.specs.Geometry.{is_block_size};
 ghost use Rattle.io_script.specs.Calling.{IsTotals, IsNamed, with_one_call};
-ghost use Rattle.io_script.specs.GrammarCalls.{shape_of, has_numbers, has_segments, words_of_shape, sizes_of, read_by, written_by, asked_in, length_in, blocks_between, pages_for, pages_of, is_too_much, named_cause, with_named, unnamed_cause, call_cause, with_call, verb_of};
+ghost use Rattle.io_script.specs.GrammarCalls.{shape_of, has_numbers, has_segments, words_of_shape, sizes_of, read_by, written_by, asked_in, length_in, end_in, blocks_between, pages_for, pages_of, is_too_much, named_cause, with_named, unnamed_cause, call_cause, with_call, verb_of};
 ghost use Rattle.io_script.specs.GrammarKinds.{call_name_of};
 ghost use Rattle.io_script.specs.GrammarNumbers.{value_of};
 ghost use Rattle.io_script.specs.Reading.{said, IsReader, Takes};
@@ -44,6 +44,7 @@ fn words_wanted(shape: Shape) -> usize
 {
     match shape {
         Shape::Bare => 3,
+        Shape::Sizing => 4,
         Shape::Reading | Shape::Writing | Shape::Ranging => 5,
     }
 }
@@ -54,7 +55,7 @@ fn has_its_numbers(shape: Shape, w: &Words) -> bool
 {
     match shape {
         Shape::Bare => true,
-        Shape::Writing => number(w.fourth).is_some(),
+        Shape::Writing | Shape::Sizing => number(w.fourth).is_some(),
         Shape::Ranging => number(w.fourth).is_some() && number(w.fifth).is_some(),
         Shape::Reading => number(w.fourth).is_some() && has_numbers_alone(w.fifth),
     }
@@ -65,7 +66,7 @@ fn has_its_segments(shape: Shape, w: &Words) -> bool
     ensures { result ≡ has_segments shape (seen w.now) }
 {
     match shape {
-        Shape::Bare | Shape::Ranging => true,
+        Shape::Bare | Shape::Ranging | Shape::Sizing => true,
         Shape::Reading => count_parts(w.fifth) <= SEGMENTS,
         Shape::Writing => count_parts(w.fifth) <= SEGMENTS && has_segments_alone(w.fifth),
     }
@@ -77,7 +78,7 @@ fn sizes(alloc: Global, shape: Shape, w: &Words) -> Result<Vec<u64>, AllocError>
     ensures few { has_segments shape (seen w.now) ≡ true → IfOk result (λ v. length v.items ≤ 16) }
 {
     match shape {
-        Shape::Bare | Shape::Ranging => Ok(Vec::new(alloc)),
+        Shape::Bare | Shape::Ranging | Shape::Sizing => Ok(Vec::new(alloc)),
         Shape::Reading => lengths(alloc, w.fifth),
         Shape::Writing => segment_sizes(alloc, w.fifth),
     }
@@ -95,15 +96,14 @@ fn total(sizes: &[u64]) -> u128
     all
 }
 
-/// The blocks of a file that a range meets, cut at the file's end.
-fn blocks_met(size: u32, off: u64, asked: u128, blocks: u64) -> u128
+/// The blocks of so many bytes that are met from one byte up to another.
+fn blocks_met(size: u32, low: u64, high: u128) -> u128
     requires size { IsTrue (is_block_size size) }
-    requires asked { asked ≤ 295147905179352825856 }
-    ensures { result ≡ blocks_between size off (min (off + asked) (blocks * size)) }
+    requires high { high ≤ 79228162514264337593543950336 }
+    ensures { result ≡ blocks_between size low high }
 {
     let size = u128::from(size);
-    let low = u128::from(off);
-    let high = (low + asked).min(u128::from(blocks) * size);
+    let low = u128::from(low);
     if low < high {
         (high - 1) / size - low / size + 1
     } else {
@@ -143,7 +143,7 @@ fn read_part(shape: Shape, asked: u64) -> u64
 {
     match shape {
         Shape::Reading => asked,
-        Shape::Writing | Shape::Ranging | Shape::Bare => 0,
+        Shape::Writing | Shape::Ranging | Shape::Sizing | Shape::Bare => 0,
     }
 }
 
@@ -154,7 +154,7 @@ fn written_part(shape: Shape, asked: u64) -> u64
 {
     match shape {
         Shape::Writing => asked,
-        Shape::Reading | Shape::Ranging | Shape::Bare => 0,
+        Shape::Reading | Shape::Ranging | Shape::Sizing | Shape::Bare => 0,
     }
 }
 
@@ -169,6 +169,21 @@ fn range_length(name: CallName, asked: u64, w: &Words) -> u128
     } else {
         u128::from(asked)
     }
+}
+
+/// Where the range of a data call ends in a file of so many blocks: a cut goes from its size to the
+/// file's end.
+fn range_end(name: CallName, size: u32, blocks: u64, asked: u64, w: &Words) -> u128
+    requires size { IsTrue (is_block_size size) }
+    requires asked { asked ≡ asked_in name (seen w.now) }
+    ensures value { result ≡ end_in name size blocks (seen w.now) }
+    ensures small { result ≤ 79228162514264337593543950336 }
+{
+    let end = u128::from(blocks) * u128::from(size);
+    if name.is_cutting() {
+        return end;
+    }
+    (u128::from(value(w.fourth)) + range_length(name, asked, w)).min(end)
 }
 
 /// The user pages of a call.
@@ -210,8 +225,8 @@ fn totals_with(r: &Reader, name: CallName, w: &Words, sizes: &[u64], blocks: u64
         return None;
     }
     let size = r.geometry.block_size();
-    let length = range_length(name, asked, w);
-    let met = u128::from(r.met) + blocks_met(size, value(w.fourth), length, blocks);
+    let end = range_end(name, size, blocks, asked, w);
+    let met = u128::from(r.met) + blocks_met(size, value(w.fourth), end);
     if met > MET {
         return None;
     }
@@ -269,6 +284,7 @@ fn verb(alloc: Global, name: CallName, w: &Words) -> Result<Verb, AllocError>
             from: off,
             blocks: value(w.fifth),
         }),
+        CallName::Trunc => Ok(Verb::Trunc { size: off }),
         CallName::Sync => Ok(Verb::Sync),
         CallName::Drop => Ok(Verb::Drop),
     }
@@ -280,6 +296,7 @@ pub struct NamedFile {
     pub place: usize,
     pub mode: Mode,
     pub blocks: u64,
+    pub sized: bool,
 }
 
 /// The file that the third word names.
@@ -293,6 +310,7 @@ fn named_file(r: &Reader, w: &Words) -> Option<NamedFile>
         place,
         mode: file.mode,
         blocks: file.blocks,
+        sized: file.size.is_some(),
     })
 }
 
@@ -338,7 +356,7 @@ fn take_named(alloc: Global, r: &mut Reader, name: CallName, w: &Words) -> Resul
     let Some(file) = named_file(r, w) else {
         return Err(LineFault::Because(Cause::BadName));
     };
-    if !name.is_allowed_on(file.mode) {
+    if !name.is_of_mode(file.mode) || !name.is_of_size(file.sized) {
         return Err(LineFault::Because(Cause::BadMode));
     }
     let sizes = sizes(alloc, name.shape(), w)?;

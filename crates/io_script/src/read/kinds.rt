@@ -11,7 +11,9 @@ pub enum LineKind {
     Header,
     Device,
     Folio,
+    Grain,
     File,
+    Size,
     Extent,
     Data,
     Fault,
@@ -35,6 +37,7 @@ pub enum CallName {
     Wb,
     Sync,
     Drop,
+    Trunc,
 }
 
 /// Whether the blocks of an extent were written.
@@ -55,12 +58,14 @@ pub enum Shape {
     Writing,
     /// Where a range begins and how long it is.
     Ranging,
+    /// The size of the file.
+    Sizing,
     /// Nothing.
     Bare,
 }
 
 impl CallName {
-    ghost use Rattle.io_script.specs.GrammarCalls.{shape_of, is_direct_name, is_zeroing_name, is_allowed};
+    ghost use Rattle.io_script.specs.GrammarCalls.{shape_of, is_direct_name, is_zeroing_name, is_cutting_name, is_of_mode, is_of_size};
 
     /// What follows the name of the file.
     pub fn shape(self) -> Shape
@@ -70,6 +75,7 @@ impl CallName {
             CallName::Pread | CallName::Dread | CallName::Xread => Shape::Reading,
             CallName::Pwrite | CallName::Dwrite | CallName::Xwrite => Shape::Writing,
             CallName::Zero | CallName::Punch | CallName::Alloc | CallName::Wb => Shape::Ranging,
+            CallName::Trunc => Shape::Sizing,
             CallName::Sync | CallName::Drop => Shape::Bare,
         }
     }
@@ -88,9 +94,27 @@ impl CallName {
         matches!(self, CallName::Zero | CallName::Punch)
     }
 
+    /// Whether the call cuts its file.
+    pub fn is_cutting(self) -> bool
+        ensures { result ≡ is_cutting_name self }
+    {
+        matches!(self, CallName::Trunc)
+    }
+
+    /// Whether the call is allowed on a file that has a size, or on one that has none.
+    pub fn is_of_size(self, sized: bool) -> bool
+        ensures { result ≡ is_of_size self sized }
+    {
+        match self {
+            CallName::Trunc => sized,
+            CallName::Dread | CallName::Dwrite => !sized,
+            _ => true,
+        }
+    }
+
     /// Whether the call is allowed on a file of this mode.
-    pub fn is_allowed_on(self, mode: Mode) -> bool
-        ensures { result ≡ is_allowed self mode }
+    pub fn is_of_mode(self, mode: Mode) -> bool
+        ensures { result ≡ is_of_mode self mode }
     {
         match (self, mode) {
             (CallName::Pread | CallName::Pwrite | CallName::Dread | CallName::Dwrite, Mode::Dax) =>
@@ -138,6 +162,12 @@ pub fn line_kind(word: &[u8]) -> LineKind
     }
     if word == b"folio".as_slice() {
         return LineKind::Folio;
+    }
+    if word == b"grain".as_slice() {
+        return LineKind::Grain;
+    }
+    if word == b"size".as_slice() {
+        return LineKind::Size;
     }
     LineKind::Unknown
 }
@@ -188,6 +218,9 @@ pub fn call_name(word: &[u8]) -> Option<CallName>
     }
     if word == b"drop".as_slice() {
         return Some(CallName::Drop);
+    }
+    if word == b"trunc".as_slice() {
+        return Some(CallName::Trunc);
     }
     moving_name(word)
 }

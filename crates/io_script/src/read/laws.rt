@@ -10,6 +10,9 @@ ghost use Rattle.io_model.specs.Rows.EndsAtTheFilesEnd as ends_at_the_files_end;
 ghost use Rattle.io_model.specs.Rows.DaxZeroesBeforeItMaps as dax_zeroes_before_it_maps;
 ghost use Rattle.io_model.specs.Rows.PunchZeroesPartialEnds as punch_zeroes_partial_ends;
 ghost use Rattle.io_model.specs.Rows.TwoDirectWritesInOnePhase as two_direct_writes_in_one_phase;
+ghost use Rattle.io_model.specs.Rows.SizesCutAndGrow as sizes_cut_and_grow;
+ghost use Rattle.io_model.specs.Rows.TruncatePastTheEndIsRefused as truncate_past_the_end_is_refused;
+ghost use Rattle.io_model.specs.Rows.DirectWriteBelowTheBlock as direct_write_below_the_block;
 ghost use Rattle.io_script.specs.Grammar.{IsScript};
 ghost use Rattle.io_script.specs.Texts.{small};
 
@@ -63,4 +66,19 @@ pub fn punch_zeroes_partial_ends()
 /// Two callers in one phase, and a second phase.
 pub fn two_direct_writes_in_one_phase()
     ensures { IsScript (small (codes "file f cached 1\next f 0 5 1 mapped\nphase\n0 dwrite f 0 41x16\n1 dwrite f 0 42x16\nphase\n2 dread f 0 16\n")) two_direct_writes_in_one_phase.script }
+{}
+
+/// A size line, and cuts.
+pub fn sizes_cut_and_grow()
+    ensures { IsScript (small (codes "file f cached 4\nsize f 5\next f 0 2 1 mapped\nphase\n0 pread f 0 16\n0 pwrite f 20 41\n0 pread f 0 24\n0 trunc f 3\n0 pread f 0 8\n")) sizes_cut_and_grow.script }
+{}
+
+/// A cut past the file's end is in the grammar.
+pub fn truncate_past_the_end_is_refused()
+    ensures { IsScript (small (codes "file f cached 4\nsize f 5\next f 0 2 1 mapped\nphase\n0 trunc f 65\n")) truncate_past_the_end_is_refused.script }
+{}
+
+/// The second version, with a grain below the block size.
+pub fn direct_write_below_the_block()
+    ensures { IsScript (codes "iomap 2\ndev 32 8 ee\nfolio 4\ngrain 16\nfile f cached 2\next f 0 3 1 unwritten\nphase\n0 dwrite f 16 41x16\n0 pread f 0 32\n0 dread f 16 16\n0 dwrite f 8 42x16\n") direct_write_below_the_block.script }
 {}

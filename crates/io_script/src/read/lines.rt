@@ -1,8 +1,8 @@
 //! The lines that say what there is before the first call, but extents and data.
-ghost use Rattle.std.specs.Prelude.{◌≡◌, ◌+◌, ◌<◌, ◌≤◌, [], true, false, length, IsTrue, OnOk};
-ghost use Rattle.iob_base.specs.Geometry.{is_block_size, is_folio_blocks};
-ghost use Rattle.iob_base.specs.Layout.{layout};
-ghost use Rattle.io_script.specs.GrammarLines.{device_cause, with_device, with_one_device, folio_cause, with_folio, file_cause, with_file, with_one_file, known_file, place_of, fault_cause, with_fault, phase_cause, with_phase};
+ghost use Rattle.std.specs.Prelude.{◌≡◌, ◌+◌, ◌<◌, ◌≤◌, [], true, false, length, if◌then◌else◌, IsTrue, OnOk};
+ghost use Rattle.iob_base.specs.Geometry.{is_block_size, is_folio_blocks, is_grain};
+ghost use Rattle.iob_base.specs.Layout.{layout, layout_with_grain};
+ghost use Rattle.io_script.specs.GrammarLines.{device_cause, with_device, with_one_device, folio_cause, with_folio, grain_cause, with_grain, file_cause, with_file, with_one_file, known_file, place_of, fault_cause, with_fault, phase_cause, with_phase};
 ghost use Rattle.io_script.specs.Reading.{said, is_early, IsReader, Takes};
 ghost use Rattle.io_script.specs.Seen.{seen};
 
@@ -40,6 +40,16 @@ fn geometry_of(block_size: u32, folio: u32) -> Geometry
     ensures { result ≡ layout block_size folio }
 {
     Geometry::new(block_size, folio).unwrap()
+}
+
+/// The geometry of sizes and a grain that were tried already.
+fn geometry_with_grain(block_size: u32, folio: u32, grain: u32) -> Geometry
+    requires size { IsTrue (is_block_size block_size) }
+    requires blocks { IsTrue (is_folio_blocks folio) }
+    requires grain { IsTrue (is_grain block_size grain) }
+    ensures { result ≡ layout_with_grain block_size folio grain }
+{
+    Geometry::with_grain(block_size, folio, grain).unwrap()
 }
 
 /// Whether a block may have so many bytes.
@@ -118,6 +128,34 @@ pub fn take_folio(r: &mut Reader, w: &Words) -> Result<(), LineFault>
         return Err(LineFault::Because(Cause::BadNumber));
     }
     r.geometry = geometry_of(r.geometry.block_size(), blocks as u32);
+    r.stage = after_folio(r.is_fine);
+    Ok(())
+}
+
+/// What stands after the folio line.
+fn after_folio(is_fine: bool) -> Stage
+    ensures { result ≡ (if is_fine then Stage.Grain else Stage.Files) }
+{
+    if is_fine { Stage::Grain } else { Stage::Files }
+}
+
+/// `grain <bytes>`.
+pub fn take_grain(r: &mut Reader, w: &Words) -> Result<(), LineFault>
+    requires { IsReader r.old }
+    ensures { Takes (grain_cause (said r.old) (seen w.now)) (with_grain (said r.old) (seen w.now)) result r.new }
+{
+    if !matches!(r.stage, Stage::Grain) {
+        return Err(LineFault::Because(Cause::BadOrder));
+    }
+    if w.count != 2 {
+        return Err(LineFault::Because(Cause::BadCount));
+    }
+    let grain = value(w.second);
+    let size = r.geometry.block_size();
+    if !is_a_block_size(grain) || grain > u64::from(size) {
+        return Err(LineFault::Because(Cause::BadNumber));
+    }
+    r.geometry = geometry_with_grain(size, r.geometry.folio_blocks(), grain as u32);
     r.stage = Stage::Files;
     Ok(())
 }

@@ -44,6 +44,7 @@ impl<T: Drop> From<AllocFailed<T>> for LineFault {
 #[derive(Drop)]
 pub struct Reader {
     pub stage: Stage,
+    pub is_fine: bool,
     pub geometry: Geometry,
     pub device_blocks: u32,
     pub fill: u8,
@@ -71,6 +72,7 @@ impl Reader {
     {
         Reader {
             stage: Stage::Header,
+            is_fine: false,
             geometry: Geometry::new(16, 1).unwrap(),
             device_blocks: 0,
             fill: 0,

@@ -1,6 +1,7 @@
 //! A whole script, line by line.
-ghost use Rattle.std.specs.Prelude.{◌≡◌, [], Some, None, IfOk, IfErr};
-ghost use Rattle.io_script.specs.Grammar.{IsScript, IsFaultOf, is_header, common_cause, line_cause, unended_cause, end_cause, last_cause, IsRefusal, with_line, next_said, cause_by_kind, with_kind, kind_cause};
+ghost use Rattle.std.specs.Prelude.{◌≡◌, ◌||◌, [], Some, None, codes, IfOk, IfErr};
+ghost use Rattle.std.specs.Str.{bytes_eq};
+ghost use Rattle.io_script.specs.Grammar.{IsScript, IsFaultOf, is_second, is_header, common_cause, line_cause, unended_cause, end_cause, last_cause, IsRefusal, with_line, next_said, cause_by_kind, with_kind, kind_cause};
 ghost use Rattle.io_script.specs.GrammarWords.{words, fields_of};
 ghost use Rattle.io_script.specs.Reading.{said, IsReader, Takes, IsFaultAt};
 ghost use Rattle.io_script.specs.Checking.{IsChecked};
@@ -11,8 +12,9 @@ use crate::read::calls::take_call;
 use crate::read::cause::{Cause, ScriptFault};
 use crate::read::extents::{take_data, take_extent};
 use crate::read::kinds::{LineKind, line_kind};
-use crate::read::lines::{take_device, take_fault, take_file, take_folio, take_phase};
+use crate::read::lines::{take_device, take_fault, take_file, take_folio, take_grain, take_phase};
 use crate::read::reader::{LineFault, Reader};
+use crate::read::sizes::take_size;
 use crate::read::stage::Stage;
 use crate::read::words::{Words, cut, has_unprintable, is_kept_line, words_of};
 use io_model::Script;
@@ -28,11 +30,25 @@ pub struct Checked {
 /// How many bytes a script may have.
 pub const TEXT_LIMIT: usize = 16777216;
 
-/// Whether a line is `iomap 1`.
+/// Whether a word is that of the second version, which has a grain line.
+fn is_second_version(word: &[u8]) -> bool
+    ensures { result ≡ is_second word.now }
+{
+    word == b"2".as_slice()
+}
+
+/// Whether a word is that of a version.
+fn is_version(word: &[u8]) -> bool
+    ensures { result ≡ (bytes_eq word.now (codes "1") || is_second word.now) }
+{
+    word == b"1".as_slice() || is_second_version(word)
+}
+
+/// Whether a line is `iomap 1` or `iomap 2`.
 fn is_header_line(w: &Words) -> bool
     ensures { result ≡ is_header (seen w.now) }
 {
-    w.count == 2 && w.first == b"iomap".as_slice() && w.second == b"1".as_slice()
+    w.count == 2 && w.first == b"iomap".as_slice() && is_version(w.second)
 }
 
 /// The cause that a kept line has, whatever its kind.
@@ -58,7 +74,9 @@ fn take_kind(alloc: Global, r: &mut Reader, kind: LineKind, w: &Words) -> Result
         LineKind::Header => Err(LineFault::Because(Cause::BadOrder)),
         LineKind::Device => take_device(alloc, r, w),
         LineKind::Folio => take_folio(r, w),
+        LineKind::Grain => take_grain(r, w),
         LineKind::File => take_file(alloc, r, w),
+        LineKind::Size => take_size(r, w),
         LineKind::Extent => take_extent(r, w),
         LineKind::Data => take_data(alloc, r, w),
         LineKind::Fault => take_fault(r, w),
@@ -75,6 +93,7 @@ fn take_kept(alloc: Global, r: &mut Reader, w: &Words) -> Result<(), LineFault>
 {
     if matches!(r.stage, Stage::Header) {
         r.stage = Stage::Device;
+        r.is_fine = is_second_version(w.second);
         return Ok(());
     }
     take_kind(alloc, r, line_kind(w.first), w)
@@ -111,7 +130,7 @@ fn missing(r: &Reader) -> Option<Cause>
 {
     match r.stage {
         Stage::Header => Some(Cause::NoHeader),
-        Stage::Device | Stage::Folio => Some(Cause::BadOrder),
+        Stage::Device | Stage::Folio | Stage::Grain => Some(Cause::BadOrder),
         Stage::Files | Stage::Calls => None,
     }
 }

@@ -9,6 +9,8 @@ pub enum Stage {
     Device,
     /// The folio line.
     Folio,
+    /// The grain line, where the header asks for one.
+    Grain,
     /// Lines that say what there is before the first call, and the first phase.
     Files,
     /// Calls and further phases.

@@ -1,6 +1,6 @@
 //! Texts that are refused, each for the first thing that is wrong.
 ghost use Rattle.std.specs.Prelude.{[], codes};
-ghost use Rattle.io_script.specs.Texts.{IsRefused, small, with_file};
+ghost use Rattle.io_script.specs.Texts.{IsRefused, small, fine, with_file};
 ghost use Rattle.io_script.specs.declared.read.cause.Cause.TheVariants.{BadBlock, BadByte, BadBytes, BadCount, BadMode, BadName, BadNumber, BadOrder, BadWord, NoEnd, NoHeader, Overlap, TooMuch};
 
 /// An empty input has no header, in its first line.
@@ -10,7 +10,7 @@ pub fn refuses_empty_input()
 
 /// The header is the first kept line.
 pub fn refuses_another_header()
-    ensures { IsRefused (codes "# a script\niomap 2\n") 2 NoHeader }
+    ensures { IsRefused (codes "# a script\niomap 3\n") 2 NoHeader }
 {}
 
 /// The end of the input comes after the last line.
@@ -156,4 +156,84 @@ pub fn refuses_a_sum_past_all_numbers()
 /// A call line without its end is refused for that.
 pub fn refuses_half_a_call_line()
     ensures { IsRefused (codes "iomap 1\ndev 16 8 ee\nfolio 4\nfile f cached 4\nphase\n0 pre") 6 NoEnd }
+{}
+
+/// The first version has no grain line.
+pub fn refuses_a_grain_in_the_first_version()
+    ensures { IsRefused (small (codes "grain 16\n")) 4 BadOrder }
+{}
+
+/// In the second version the grain line stands before the files.
+pub fn refuses_a_file_before_the_grain()
+    ensures { IsRefused (fine (codes "file f cached 1\n")) 4 BadOrder }
+{}
+
+/// In the second version the grain line is not left out.
+pub fn refuses_input_that_ends_before_the_grain()
+    ensures { IsRefused (fine []) 4 BadOrder }
+{}
+
+/// A grain is a power of two from 16 on.
+pub fn refuses_too_small_a_grain()
+    ensures { IsRefused (fine (codes "grain 8\n")) 4 BadNumber }
+{}
+
+/// A grain is at most the block size.
+pub fn refuses_a_grain_past_the_block()
+    ensures { IsRefused (fine (codes "grain 64\n")) 4 BadNumber }
+{}
+
+/// A grain line has one number.
+pub fn refuses_a_grain_line_without_its_number()
+    ensures { IsRefused (fine (codes "grain\n")) 4 BadCount }
+{}
+
+/// A grain line stands once.
+pub fn refuses_a_second_grain()
+    ensures { IsRefused (fine (codes "grain 32\ngrain 16\n")) 5 BadOrder }
+{}
+
+/// A size is a number.
+pub fn refuses_a_size_that_is_no_number()
+    ensures { IsRefused (small (codes "file f cached 1\nsize f -\n")) 5 BadNumber }
+{}
+
+/// A size line names a file.
+pub fn refuses_a_size_of_no_file()
+    ensures { IsRefused (small (codes "size f 1\n")) 4 BadName }
+{}
+
+/// A file has one size.
+pub fn refuses_a_second_size()
+    ensures { IsRefused (small (codes "file f cached 1\nsize f 16\nsize f 17\n")) 6 BadName }
+{}
+
+/// A size lies in its file, the end included.
+pub fn refuses_a_size_past_the_file()
+    ensures { IsRefused (small (codes "file f cached 1\nsize f 17\n")) 5 BadBlock }
+{}
+
+/// A Dax file has no size, and a size past its end hides that.
+pub fn refuses_a_size_of_a_dax_file()
+    ensures { IsRefused (small (codes "file g dax 1\nsize g 16\n")) 5 BadMode }
+{}
+
+/// A size line stands before the first phase.
+pub fn refuses_a_size_after_a_phase()
+    ensures { IsRefused (with_file (codes "size f 1\n")) 6 BadOrder }
+{}
+
+/// A file without a size is not cut.
+pub fn refuses_a_cut_of_a_file_without_a_size()
+    ensures { IsRefused (with_file (codes "0 trunc f 1\n")) 6 BadMode }
+{}
+
+/// A cut has one number.
+pub fn refuses_a_cut_with_two_numbers()
+    ensures { IsRefused (with_file (codes "0 trunc f 1 1\n")) 6 BadCount }
+{}
+
+/// A file with a size has no direct calls.
+pub fn refuses_a_direct_call_of_a_file_with_a_size()
+    ensures { IsRefused (small (codes "file f cached 1\nsize f 16\nphase\n0 pread f 0 1\n0 dread f 0 16\n")) 8 BadMode }
 {}
