@@ -30,6 +30,7 @@ use Rattle.range_core.proofs.AfterRun.{changed_truth, keeps_claims}
 use Rattle.range_core.proofs.KeptPlaces.{KeepsPlaces, kept_kinds, kept_pending, kept_space}
 use Rattle.range_core.proofs.SampleLemmas.{samples_next}
 use Rattle.range_core.specs.Happened.{IsAsFound}
+use Rattle.range_core.proofs.StakeTruth.{Works}
 
 -- An entry of this caller leaves a stamp of `by` on each block of the run, and no count of the range changes
 pub record StampsRun (size caller : ℕ) (now next : RangeView) (by : Tag) (run : ByteRun) (e : Entry) : Type 0 where
@@ -53,7 +54,7 @@ not_dax : (m : Mode) → m ≡ Cached → m ≡ Dax → ⊥
 not_dax m e d = cc
 
 pub bytes_truth : (opening now : RangeView) (history : List Entry) (e : Entry) (stakes : List RangeStake) (number : ℕ) (claims : ClaimsView) (made : List Entry) (f : ℕ → Cell → Cell) (by : Tag) (run : ByteRun) → RangeTruth opening now history stakes
-    → get_elem? stakes number ≡ some (Some claims, made) → opening.mode ≡ Cached → opening.first ≤ run.first → KeepsPlaces f → StampsRun opening.geometry.block_size claims.caller now (after_bytes f now by run) by run e
+    → Works stakes number claims made → opening.mode ≡ Cached → opening.first ≤ run.first → KeepsPlaces f → StampsRun opening.geometry.block_size claims.caller now (after_bytes f now by run) by run e
     → ActsOnRun opening.geometry.block_size opening.first now stakes f run e
     → RangeTruth opening (after_bytes f now by run) (history ++ e ∷ []) (set stakes number (Some claims, made ++ e ∷ []))
 bytes_truth opening now history e stakes number claims made f by run t here cached low keeps s acts =

@@ -1,5 +1,5 @@
 -- The range truth after one more entry.
-use Rattle.std.proofs.Common.{◌≡◌, ◌≢◌, length, ℕ, ◌+◌, ◌-◌, ◌*◌, ◌/◌, ◌%◌, ◌≤◌, ◌^◌, nat_eq, Some, List, [], ◌∷◌, ◌++◌, get_or, set, true, All, refl, sym, ◌∙◌, ap, subst, arith, append_assoc, append-nil, ⊎_elim}
+use Rattle.std.proofs.Common.{◌≡◌, ◌≢◌, length, ℕ, ◌+◌, ◌-◌, ◌*◌, ◌/◌, ◌%◌, ◌≤◌, ◌^◌, nat_eq, Some, List, [], ◌∷◌, ◌++◌, get_or, set, true, All, refl, sym, ◌∙◌, ap, subst, arith, append_assoc, append-nil, ⊎_elim, Bool, false, ◌&&◌, if◌then◌else◌}
 use Rattle.std.specs.Prelude.{min, max, slice_get}
 use Rattle.std.proofs.Math.Nat.{mod-add-div', add-mul-mod_self_right}
 use Rattle.std.proofs.lemmas.List.Elements.{All-push}
@@ -24,12 +24,12 @@ use Rattle.range_core.specs.Quiet.{IsQuiet}
 use Rattle.range_core.specs.RangeTruth.{IsSameRun, IsUncached, RangeTruth, content_at, pending}
 use Rattle.range_core.specs.RangeView.{RangeView}
 use Rattle.range_core.specs.Space.{ClaimsSpace}
-use Rattle.range_core.specs.Stakes.{IsApart, RangeStake, held_by, mains, names, names_block, spares, workers}
+use Rattle.range_core.specs.Stakes.{IsApart, RangeStake, held_by, mains, names, names_block, spares, workers, strays}
 use Rattle.range_core.specs.declared.cell.Cell.{Cell}
 use Rattle.range_core.specs.declared.entry.Entry.{Entry}
 use Rattle.range_core.proofs.KindRuns.{keep_samples, kinds_of}
 use Rattle.range_core.proofs.SpaceLemmas.{space_by_kinds}
-use Rattle.range_core.proofs.StakeTruth.{SameClaims, true-restaked}
+use Rattle.range_core.proofs.StakeTruth.{SameClaims, true-restaked, Works}
 use Rattle.range_core.specs.Happened.{fits_by}
 use Rattle.range_core.proofs.LawfulLemmas.{lawful-more}
 
@@ -64,9 +64,11 @@ mod-more x l m =
     sym (ap (λ n. n % m) split ∙ add-mul-mod_self_right (x % m + l) (x / m) m)
 
 -- a caller's entry is made under no spare number
-apart_more : (caller : ℕ) (history : List Entry) (e : Entry) (stakes : List RangeStake) (number : ℕ) (claims left : ClaimsView) (made now : List Entry) → get_elem? stakes number ≡ some (Some claims, made)
-    → GoesOn claims left → e.caller ≡ claims.caller → IsApart caller history stakes → IsApart caller (history ++ e ∷ []) (set stakes number (Some left, now))
-apart_more caller history e stakes number claims left made now here goes by a =
+apart_more : (caller : ℕ) (history : List Entry) (e : Entry) (stakes : List RangeStake) (number : ℕ) (claims left : ClaimsView) (made : List Entry) → Works stakes number claims made
+    → GoesOn claims left → e.caller ≡ claims.caller → IsApart caller history stakes → IsApart caller (history ++ e ∷ []) (set stakes number (Some left, made ++ e ∷ []))
+apart_more caller history e stakes number claims left made works goes by a =
+    let now : List Entry = made ++ e ∷ [] in
+    let here = works.here in
     let s : total (spares caller) (set stakes number (Some left, now)) + spares caller (Some claims, made) ≡ total (spares caller) stakes + spares caller (Some left, now) =
     total-set (spares caller) stakes number (Some claims, made) (Some left, now) here in
     let m : total (mains caller) (set stakes number (Some left, now)) + mains caller (Some claims, made) ≡ total (mains caller) stakes + mains caller (Some left, now) =
@@ -77,13 +79,36 @@ apart_more caller history e stakes number claims left made now here goes by a =
     let same_mains : mains caller (Some left, now) ≡ mains caller (Some claims, made) = mains_by goes.main goes.caller in
     let same_workers : workers caller (Some left, now) ≡ workers caller (Some claims, made) = ap (λ n. one_where (nat_eq n caller)) goes.caller in
     let own : made_as caller e ≡ workers caller (Some claims, made) = ap (λ n. one_where (nat_eq n caller)) by in
-    let works : workers caller (Some claims, made) ≤ total (workers caller) stakes = total-at (workers caller) stakes number (Some claims, made) here in
+    let working : workers caller (Some claims, made) ≤ total (workers caller) stakes = total-at (workers caller) stakes number (Some claims, made) here in
     let entries : total (made_as caller) (history ++ e ∷ []) ≡ total (made_as caller) history + (made_as caller e + 0) = total-append (made_as caller) history (e ∷ []) in
     record {
       one = let o = a.one in omega arith;
       unused = λ more. let u = a.unused (omega arith) in omega arith;
+      own = λ more.
+          let none = a.own (omega arith) in
+          let t : total (strays caller) (set stakes number (Some left, now)) + strays caller (Some claims, made) ≡ total (strays caller) stakes + strays caller (Some left, now) =
+          total-set (strays caller) stakes number (Some claims, made) (Some left, now) here in
+          let same : strays caller (Some left, now) ≡ strays caller (Some claims, made) = stray_by goes.main goes.caller in
+          omega arith;
     }
   where
+    -- the entry is made under the number of a caller's own seat, so it is none that strays
+    entered : (t : Bool) → nat_eq claims.caller caller ≡ t → (if claims.main && t then 0 else total (made_as caller) (made ++ e ∷ [])) ≡ (if claims.main && t then 0 else total (made_as caller) made)
+    entered true is = ap (λ u. if u && true then 0 else total (made_as caller) (made ++ e ∷ [])) works.own ∙ sym (ap (λ u. if u && true then 0 else total (made_as caller) made) works.own)
+    entered false is =
+        let other : made_as caller e ≡ 0 = ap (λ n. one_where (nat_eq n caller)) by ∙ ap one_where is in
+        let more : total (made_as caller) (made ++ e ∷ []) ≡ total (made_as caller) made + (made_as caller e + 0) = total-append (made_as caller) made (e ∷ []) in
+        let even : total (made_as caller) (made ++ e ∷ []) ≡ total (made_as caller) made = omega arith in
+        ap (λ n. if claims.main && false then 0 else n) even
+
+    stray_by : left.main ≡ claims.main → left.caller ≡ claims.caller → strays caller (Some left, made ++ e ∷ []) ≡ strays caller (Some claims, made)
+    stray_by g h =
+        ap (λ u. strays caller (Some (record left { main = u }), made ++ e ∷ [])) g ∙ ap (λ n. strays caller (Some (record claims { caller = n }), made ++ e ∷ [])) h
+        ∙ entered (nat_eq claims.caller caller) refl
+
+    now : List Entry
+    now = made ++ e ∷ []
+
     spares_by : left.spare ≡ claims.spare → spares caller (Some left, now) ≡ spares caller (Some claims, made)
     spares_by g = ap (λ n. spares caller (Some (record claims { spare = n }), made)) g
 
@@ -91,17 +116,17 @@ apart_more caller history e stakes number claims left made now here goes by a =
     mains_by g h = ap (λ t. mains caller (Some (record left { main = t }), made)) g ∙ ap (λ n. mains caller (Some (record claims { caller = n }), made)) h
 
 -- a seat whose claim stays names what it named
-pub same_set : (stakes : List RangeStake) (number : ℕ) (claims left : ClaimsView) (made now : List Entry) → get_elem? stakes number ≡ some (Some claims, made) → left.held ≡ claims.held
+pub same_set : (stakes : List RangeStake) (number : ℕ) (claims left : ClaimsView) (made now : List Entry) → Works stakes number claims made → left.held ≡ claims.held
     → SameClaims stakes (set stakes number (Some left, now))
 same_set stakes number claims left made now here held = record {
   named = λ b.
       let t : total (names b) (set stakes number (Some left, now)) + names b (Some claims, made) ≡ total (names b) stakes + names b (Some left, now) =
-      total-set (names b) stakes number (Some claims, made) (Some left, now) here in
+      total-set (names b) stakes number (Some claims, made) (Some left, now) here.here in
       let e : names b (Some left, now) ≡ names b (Some claims, made) = ap (λ h. one_where (names_block b h)) held in
       omega arith;
   held = λ b n s at more.
       ⊎_elim
-      (λ (u : (n ≡ number) × ((Some left, now) ≡ s)). record { number = number; stake = (Some claims, made); here = here; same = sym held ∙ ap (λ (x : RangeStake). held_by x.0) u.1 })
+      (λ (u : (n ≡ number) × ((Some left, now) ≡ s)). record { number = number; stake = (Some claims, made); here = here.here; same = sym held ∙ ap (λ (x : RangeStake). held_by x.0) u.1 })
       (λ (u : (n ≢ number) × (get_elem? stakes n ≡ some s)). record { number = n; stake = s; here = u.1; same = refl })
       (at_set stakes number n _ s at);
 }
@@ -113,7 +138,7 @@ module _ (opening now next : RangeView) (history : List Entry) (e : Entry) (stak
       → IsTrueAt opening.geometry.block_size (opening.first + i) was content stakes
       → IsTrueAt opening.geometry.block_size (opening.first + i) c (content_after opening.geometry.block_size (opening.first + i) content e) (set stakes number (Some left, made ++ e ∷ []))
 
-  pub after_entry : RangeTruth opening now history stakes → get_elem? stakes number ≡ some (Some claims, made) → IsNext opening.geometry.block_size opening.first now next e
+  pub after_entry : RangeTruth opening now history stakes → Works stakes number claims made → IsNext opening.geometry.block_size opening.first now next e
       → All (GivesPresent next) (history ++ e ∷ []) → KeepsBlocks → GoesOn claims left → e.caller ≡ claims.caller
       → RangeTruth opening next (history ++ e ∷ []) (set stakes number (Some left, made ++ e ∷ []))
   after_entry t here n samples keeps goes by =
@@ -156,7 +181,7 @@ module _ (opening now next : RangeView) (history : List Entry) (e : Entry) (stak
             ∙ ap (λ l. opening.log ++ l) (sym (stamps_in-more size history e));
         cookie_has_headroom = n.headroom;
         dax_is_uncached = n.uncached;
-        callers_are_apart = λ caller l. apart_more caller history e stakes number claims left made (made ++ e ∷ []) here goes by (t.callers_are_apart caller l);
+        callers_are_apart = λ caller l. apart_more caller history e stakes number claims left made here goes by (t.callers_are_apart caller l);
         has_happened = λ i first there.
             let b = opening.first + i in
             let was = get_or now.cells i first in
@@ -175,7 +200,7 @@ quiet_tickets opening now history e stakes t none =
     k ∙ sym (ap (λ n. n % (2 ^ 64)) (z ∙ ap (λ n. n + 0) k) ∙ mod-more (opening.tickets + total lendings history) 0 (2 ^ 64) ∙ ap (λ n. n % (2 ^ 64)) (omega arith))
 
 pub quiet_truth : (opening now : RangeView) (history : List Entry) (e : Entry) (stakes : List RangeStake) (number : ℕ) (claims : ClaimsView) (made : List Entry) → RangeTruth opening now history stakes
-    → get_elem? stakes number ≡ some (Some claims, made) → IsQuiet opening.geometry.block_size e → GivesPresent now e → e.caller ≡ claims.caller
+    → Works stakes number claims made → IsQuiet opening.geometry.block_size e → GivesPresent now e → e.caller ≡ claims.caller
     → RangeTruth opening now (history ++ e ∷ []) (set stakes number (Some claims, made ++ e ∷ []))
 quiet_truth opening now history e stakes number claims made t here q gives by =
     let same : (i : ℕ) (was c : Cell) → slice_get now.cells i ≡ Some was → slice_get now.cells i ≡ Some c → c ≡ was =
@@ -214,7 +239,7 @@ pub record LeavesContents (size : ℕ) (e : Entry) : Type 0 where
 
 -- where an entry leaves everything but pages as it was, the truth holds of blocks that are as true with the pages as they are
 pub paged_truth : (opening now : RangeView) (cells : List Cell) (history : List Entry) (e : Entry) (stakes : List RangeStake) (number : ℕ) (claims : ClaimsView) (made : List Entry) → RangeTruth opening now history stakes
-    → get_elem? stakes number ≡ some (Some claims, made) → LeavesContents opening.geometry.block_size e → GivesPresent (record now { cells = cells }) e → e.caller ≡ claims.caller
+    → Works stakes number claims made → LeavesContents opening.geometry.block_size e → GivesPresent (record now { cells = cells }) e → e.caller ≡ claims.caller
     → length cells ≡ length now.cells → kinds_of cells ≡ kinds_of now.cells → total pending cells ≡ total pending now.cells → (All IsUncached now.cells → All IsUncached cells)
     → ((i : ℕ) (was c : Cell) → slice_get now.cells i ≡ Some was → slice_get cells i ≡ Some c → state_of c ≡ state_after opening.geometry.block_size (opening.first + i) (state_of was) e)
     → ((i : ℕ) (was c : Cell) (b : ℕ) (content : Content) → slice_get now.cells i ≡ Some was → slice_get cells i ≡ Some c → IsTrueAt opening.geometry.block_size b was content stakes → IsTrueAt opening.geometry.block_size b c content stakes)

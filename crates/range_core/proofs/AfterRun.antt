@@ -17,7 +17,7 @@ use Rattle.range_core.specs.EntryStamps.{stamps_of}
 use Rattle.range_core.specs.Lookups.{GivesPresent}
 use Rattle.range_core.specs.OnRun.{on_each}
 use Rattle.range_core.specs.RangeTruth.{IsUncached, RangeTruth, pending}
-use Rattle.range_core.specs.RangeView.{RangeView}
+use Rattle.range_core.specs.RangeView.{RangeView, part_in}
 use Rattle.range_core.specs.Space.{ClaimsSpace}
 use Rattle.range_core.specs.Spots.{in_run}
 use Rattle.range_core.specs.Stakes.{RangeStake}
@@ -25,7 +25,7 @@ use Rattle.range_core.specs.declared.cell.Cell.{Cell}
 use Rattle.range_core.specs.declared.entry.Entry.{Entry}
 use Rattle.range_core.proofs.AfterEntry.{GoesOn, after_entry, same_set}
 use Rattle.range_core.proofs.OnRunLemmas.{IsInRun, IsOutOfRun, length-on_each, on_each-at}
-use Rattle.range_core.proofs.StakeTruth.{true-restaked}
+use Rattle.range_core.proofs.StakeTruth.{true-restaked, Works}
 use Rattle.range_core.specs.Happened.{IsAsFound, fits_by}
 
 -- a block is one of a run, or is not
@@ -62,7 +62,7 @@ pub record CountsNext (size : ℕ) (now next : RangeView) (e : Entry) : Type 0 w
   pub geometry : next.geometry ≡ now.geometry
   pub mode : next.mode ≡ now.mode
   pub first : next.first ≡ now.first
-  pub pool : next.seat.cell ≡ now.seat.cell
+  pub pool : part_in next.seat ≡ part_in now.seat
   pub errors : next.errors ≡ min (now.errors + failures e) (2 ^ 64 - 1)
   pub tickets : next.tickets ≡ (now.tickets + lendings e) % (2 ^ 64)
   pub cookie : next.cookie ≡ now.cookie + changes e
@@ -123,7 +123,7 @@ module _ (opening now next : RangeView) (history : List Entry) (e : Entry) (stak
       beyond l (inr h) = inr (omega arith)
 
   -- the truth holds after an entry that changes a run
-  pub changed_truth : RangeTruth opening now history stakes → get_elem? stakes number ≡ some (Some claims, made) → ChangesRun → CountsNext opening.geometry.block_size now next e
+  pub changed_truth : RangeTruth opening now history stakes → Works stakes number claims made → ChangesRun → CountsNext opening.geometry.block_size now next e
       → All (GivesPresent next) (history ++ e ∷ []) → GoesOn claims left → e.caller ≡ claims.caller
       → RangeTruth opening next (history ++ e ∷ []) others
   changed_truth t here r n samples goes by =
@@ -146,6 +146,6 @@ module _ (opening now next : RangeView) (history : List Entry) (e : Entry) (stak
       goes by
 
 -- where a seat's claim stays, what is claimed of each block stays
-pub keeps_claims : (size b : ℕ) (stakes : List RangeStake) (number : ℕ) (claims left : ClaimsView) (made now : List Entry) → get_elem? stakes number ≡ some (Some claims, made) → left.held ≡ claims.held
+pub keeps_claims : (size b : ℕ) (stakes : List RangeStake) (number : ℕ) (claims left : ClaimsView) (made now : List Entry) → Works stakes number claims made → left.held ≡ claims.held
     → (c : Cell) (x : Content) → IsTrueAt size b c x stakes → IsTrueAt size b c x (set stakes number (Some left, now))
 keeps_claims size b stakes number claims left made now here held c x h = true-restaked size b c x stakes _ (same_set stakes number claims left made now here held) h

@@ -12,7 +12,7 @@ use Rattle.range_core.specs.EntryCounts.{one_where}
 use Rattle.range_core.specs.Placing.{awaits_sector, count_in, is_empty, lacks_sector}
 use Rattle.range_core.specs.PoolTurns.{LeavesAlone, ReservesAt, TakesAt, place_of}
 use Rattle.range_core.specs.RangeTruth.{RangeTruth}
-use Rattle.range_core.specs.RangeView.{IsSound, LiesAt, RangeView}
+use Rattle.range_core.specs.RangeView.{IsSound, LiesAt, RangeView, part_in}
 use Rattle.range_core.specs.Refusals.{attach_refusal, preallocate_refusal, some_block, worn}
 use Rattle.range_core.specs.Space.{ClaimsSpace, SpaceClaims}
 use Rattle.range_core.specs.Stakes.{RangeStake}
@@ -31,6 +31,7 @@ use Rattle.range_core.proofs.PoolLemmas.{kept_for}
 use Rattle.range_core.proofs.RefusedLemmas.{refused_is_quiet}
 use Rattle.range_core.proofs.SeatTruth.{refused_entry, refused_truth}
 use Rattle.range_core.proofs.FoundLemmas.{found_taken}
+use Rattle.range_core.proofs.StakeTruth.{Works}
 
 module _ (opening now next : RangeView) (history : List Entry) (stakes : List RangeStake) (number : ℕ) (claims : ClaimsView) (made : List Entry) where
   -- the truth holds with one entry more
@@ -44,8 +45,8 @@ module _ (opening now next : RangeView) (history : List Entry) (stakes : List Ra
     pub holds : HoldsWith entry
 
   -- the truth holds of a sound range whose picked blocks took sectors
-  pub placed_turn : (picks : Cell → Bool) (holes : Cell → ℕ) (block n : ℕ) (sectors : List DeviceBlock) (space : SpaceClaims) (e : Entry) → RangeTruth opening now history stakes → get_elem? stakes number ≡ some (Some claims, made) → LiesAt opening block n
-      → PicksSpaceless picks holes → next.seat.cell ≡ now.seat.cell → length sectors ≡ count_in picks now block n → All (HasSize now.geometry.block_size) sectors → worn now (some_block picks now block n) ≡ None → IsSound next
+  pub placed_turn : (picks : Cell → Bool) (holes : Cell → ℕ) (block n : ℕ) (sectors : List DeviceBlock) (space : SpaceClaims) (e : Entry) → RangeTruth opening now history stakes → Works stakes number claims made → LiesAt opening block n
+      → PicksSpaceless picks holes → part_in next.seat ≡ part_in now.seat → length sectors ≡ count_in picks now block n → All (HasSize now.geometry.block_size) sectors → worn now (some_block picks now block n) ≡ None → IsSound next
       → next ≡ placed_run picks now block n sectors next.seat space → IsTaking opening.geometry.block_size now e (pairs_taken picks now block n sectors) → e.caller ≡ claims.caller → HoldsWith e
   placed_turn picks holes block n sectors space e t here lies spaceless pool many whole calm sound is taking by =
       let same : now.geometry.block_size ≡ opening.geometry.block_size = ap (λ g. g.block_size) t.same_run.geometry in
@@ -60,7 +61,7 @@ module _ (opening now next : RangeView) (history : List Entry) (stakes : List Ra
 module _ {R : Type 0} (run : AttachRun R) (opening now next : RangeView) (history : List Entry) (stakes : List RangeStake) (number : ℕ) (claims : ClaimsView) (made : List Entry) where
   -- what is told of an answer, and the truth
   pub attach_turn : (answer : Result ℕ EventFault) → IfErr answer (λ e. e ≡ unwrap_or (attach_refusal now run.block run.blocks) NoMemory) → OnErr answer (next ≡ now) → OnOk answer (attach_refusal now run.block run.blocks ≡ None)
-      → IfOk answer (Attaches (pool_cell run.space.now).opening now run.block run.blocks next) → IsSound next → RangeTruth opening now history stakes → get_elem? stakes number ≡ some (Some claims, made) → LiesAt opening run.block run.blocks
+      → IfOk answer (Attaches (pool_cell run.space.now).opening now run.block run.blocks next) → IsSound next → RangeTruth opening now history stakes → Works stakes number claims made → LiesAt opening run.block run.blocks
       → Enters opening now next history stakes number claims made (λ entry. IfOk answer (AttachMade run now next claims entry) × IfErr answer (AttachRefused run now next claims entry))
   attach_turn (Ok taken) refused unchanged calm attached sound t here lies =
       let e : Entry = record { caller = claims.caller; event = Attach run.block run.blocks; outcome = Took (pairs_taken awaits_sector now run.block run.blocks attached.sectors) } in
@@ -84,7 +85,7 @@ module _ {R : Type 0} (run : AttachRun R) (opening now next : RangeView) (histor
 module _ {R : Type 0} (run : PreallocateRun R) (opening now next : RangeView) (history : List Entry) (stakes : List RangeStake) (number : ℕ) (claims : ClaimsView) (made : List Entry) where
   pub preallocate_turn : (answer : Result ℕ EventFault) → IfErr answer (IsRefusedFor (holes_in now run.block run.blocks) (preallocate_refusal now run.block run.blocks))
       → IfErr answer (λ e. LeavesAlone (λ none. ReservesAt (pool_cell run.space.now).opening (holes_in now run.block run.blocks) (Err none)) e now next) → OnOk answer (preallocate_refusal now run.block run.blocks ≡ None)
-      → IfOk answer (Preallocates (pool_cell run.space.now).opening now run.block run.blocks next) → IsSound next → RangeTruth opening now history stakes → get_elem? stakes number ≡ some (Some claims, made) → LiesAt opening run.block run.blocks
+      → IfOk answer (Preallocates (pool_cell run.space.now).opening now run.block run.blocks next) → IsSound next → RangeTruth opening now history stakes → Works stakes number claims made → LiesAt opening run.block run.blocks
       → Enters opening now next history stakes number claims made (λ entry. IfOk answer (PreallocateMade run now next claims entry) × IfErr answer (PreallocateRefused run now next claims entry))
   preallocate_turn (Ok taken) refused left calm placed sound t here lies =
       let opened : PoolView = (pool_cell run.space.now).opening in

@@ -31,7 +31,7 @@ use Rattle.range_core.specs.OnRun.{on_each, with_each}
 use Rattle.range_core.specs.Placing.{count_in, is_empty, picked_with}
 use Rattle.range_core.specs.PoolTurns.{ReservesAt, TakesAt, UnreservesAt, at_seat, place_of}
 use Rattle.range_core.specs.RangeTruth.{IsUncached, RangeTruth, is_lent_for_writing, pending}
-use Rattle.range_core.specs.RangeView.{IsSound, RangeView}
+use Rattle.range_core.specs.RangeView.{IsSound, RangeView, part_in}
 use Rattle.range_core.specs.Refusals.{dax_put_refusal, stale, worn}
 use Rattle.range_core.specs.Samples.{IsExtentOf, IsKnown}
 use Rattle.range_core.specs.Space.{ClaimsSpace, SpaceClaims}
@@ -61,7 +61,7 @@ use Rattle.range_core.proofs.OnRunLemmas.{All-on_each, map-on_each_at}
 use Rattle.range_core.proofs.PlaceLemmas.{number_of, taken-in_run}
 use Rattle.range_core.proofs.PlaceSpace.{All-got}
 use Rattle.range_core.proofs.PlaceTruth.{picked-true, picked-uncached}
-use Rattle.range_core.proofs.PoolLemmas.{kept_for}
+use Rattle.range_core.proofs.PoolLemmas.{kept_for, part_kept}
 use Rattle.range_core.proofs.PromiseLemmas.{unstale}
 use Rattle.range_core.proofs.RefusedLemmas.{refused_is_quiet}
 use Rattle.range_core.proofs.SampleLemmas.{given_later, known_sample, samples_next}
@@ -81,6 +81,7 @@ use Rattle.range_core.proofs.DaxPutLemmas.{count-below, empty-spaceless}
 use Rattle.range_core.proofs.FoundLemmas.{bare-found, found_taken, if_any, met-run}
 use Rattle.range_core.proofs.LawfulLemmas.{both}
 use Rattle.range_core.specs.Happened.{took_just}
+use Rattle.range_core.proofs.StakeTruth.{Works}
 
 -- a block of which nothing is cached or lent is true of the bytes written into its sector
 put_true : (size b : ℕ) (g : Content → Content) (c : Cell) (content : Content) (stakes : List RangeStake) → ((x : Content) → length x ≡ size → length (g x) ≡ size) → is_hole c.kind ≡ false → IsUncached c → IsTrueAt size b c content stakes
@@ -195,8 +196,8 @@ module _ (opening now next : RangeView) (history : List Entry) (stakes : List Ra
       at false u = inl (leb-false run.first b u)
       at true u = inr (ltb-false b (run.first + run.blocks) (ap (λ v. v && nat_lt b (run.first + run.blocks)) (sym u) ∙ out))
 
-  put_truth : get_elem? stakes number ≡ some (Some claims, made) → IsByteRun run → length bytes ≡ to - from → IsKnown now seen → dax_put_refusal now seen ≡ None → length sectors ≡ holes_met now from to → All (HasSize size) sectors
-      → (claimed : SpaceClaims) → next ≡ after_at size claimed → next.seat.cell ≡ now.seat.cell → ClaimsSpace size next.cells next.space
+  put_truth : Works stakes number claims made → IsByteRun run → length bytes ≡ to - from → IsKnown now seen → dax_put_refusal now seen ≡ None → length sectors ≡ holes_met now from to → All (HasSize size) sectors
+      → (claimed : SpaceClaims) → next ≡ after_at size claimed → part_in next.seat ≡ part_in now.seat → ClaimsSpace size next.cells next.space
       → RangeTruth opening next (history ++ e ∷ []) (set stakes number (Some claims, made ++ e ∷ []))
   put_truth here met all known free many whole claimed is pool space =
       let refusals = neither (stale now seen) (worn now (not (is_mapped seen.extent.kind))) free in
@@ -286,7 +287,7 @@ module _ (opening now next : RangeView) (history : List Entry) (stakes : List Ra
   abbrev TruthAfter : RangeView → EventFault → Type 0
   TruthAfter r fault = RangeTruth opening r (history ++ refused_entry claims event fault ∷ []) (set stakes number (Some claims, made ++ refused_entry claims event fault ∷ []))
 
-  put_refused : (fault : EventFault) → LeavesPut pool holes fault now next → RangeTruth opening now history stakes → get_elem? stakes number ≡ some (Some claims, made) → TruthAfter next fault
+  put_refused : (fault : EventFault) → LeavesPut pool holes fault now next → RangeTruth opening now history stakes → Works stakes number claims made → TruthAfter next fault
   put_refused fault left t here = at fault left
     where
       quiet : (fault : EventFault) (r : RangeView) → RangeTruth opening r history stakes → TruthAfter r fault
@@ -295,7 +296,7 @@ module _ (opening now next : RangeView) (history : List Entry) (stakes : List Ra
       stays : (fault : EventFault) → next ≡ now → TruthAfter next fault
       stays fault e = let T : RangeView → Type 0 = λ r. TruthAfter r fault in subst T (sym e) (quiet fault now t)
 
-      seated : (fault : EventFault) → next ≡ at_seat now next.seat → next.seat.cell ≡ now.seat.cell → TruthAfter next fault
+      seated : (fault : EventFault) → next ≡ at_seat now next.seat → part_in next.seat ≡ part_in now.seat → TruthAfter next fault
       seated fault e same = let T : RangeView → Type 0 = λ r. TruthAfter r fault in subst T (sym e) (quiet fault (at_seat now next.seat) (seat_truth opening now next.seat history stakes same t))
 
       at : (fault : EventFault) → LeavesPut pool holes fault now next → TruthAfter next fault
@@ -307,7 +308,7 @@ module _ (opening now next : RangeView) (history : List Entry) (stakes : List Ra
       at (why.Dirty a) left = stays (why.Dirty a) left
       at (why.Worn a) left = stays (why.Worn a) left
       at why.NoMemory left = stays why.NoMemory left
-      at (why.NoSpace a b) left = seated (why.NoSpace a b) left.0 left.1.keeps.cell
+      at (why.NoSpace a b) left = seated (why.NoSpace a b) left.0 (part_kept now.seat next.seat left.1.keeps)
       at (why.Poison a) left =
           let up = left.1 in
           let one = kept_for holes (ReservesAt pool holes (Ok tt)) (λ p q turn. turn.keeps) (place_of now) up.promised up.reserved in
@@ -329,7 +330,7 @@ module _ {R F : Type 0} (step : F → ℕ → Done → F → Type 0) (change lat
       → IfErr answer (RefusesPut (holes_met now change.from change.to) (dax_put_refusal now change.seen) (λ done. step change.judge (blocks_met now.geometry.block_size change.from change.to) done later.judge) (later.judge ≡ change.judge))
       → IfErr answer (λ e. LeavesPut (pool_cell change.space.now).opening (holes_met now change.from change.to) e now next) → OnErr answer (later.iov.now ≡ change.iov.now) → OnOk answer (dax_put_refusal now change.seen ≡ None)
       → OnOk answer (PutsDax (pool_cell change.space.now).opening now change.by change.seen change.from change.to (put_bytes change) next) → IsByteRun (run_between now.geometry.block_size change.from change.to) → IsSound next
-      → CanPutDax now change.seen change.from change.to change.iov.now → RangeTruth opening now history stakes → get_elem? stakes number ≡ some (Some claims, made) → IsThrough opening change.seen change.from change.to
+      → CanPutDax now change.seen change.from change.to change.iov.now → RangeTruth opening now history stakes → Works stakes number claims made → IsThrough opening change.seen change.from change.to
       → Enters opening now next history stakes number claims made (λ entry. OnOk answer (PutMade change now next claims entry) × PutErr step change later now next claims entry answer)
   put_turn (Err fault) refused left nothing calm puts cut sound can t here bytes = record {
     entry = refused_entry claims (DaxPut change.by change.seen change.from change.to (put_bytes change)) fault;

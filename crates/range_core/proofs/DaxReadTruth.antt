@@ -32,6 +32,7 @@ use Rattle.range_core.proofs.NowLemmas.{stored-content}
 use Rattle.range_core.proofs.SampleLemmas.{given_later, known_sample}
 use Rattle.range_core.proofs.StampedTruth.{stamped_truth}
 use Rattle.range_core.proofs.FoundLemmas.{bare-found, if_any}
+use Rattle.range_core.proofs.StakeTruth.{Works}
 
 module _ (opening now : RangeView) (history : List Entry) (stakes : List RangeStake) (seen : Sample) (from to : ℕ) (t : RangeTruth opening now history stakes) (bytes : IsThrough opening seen from to) where
   same_size : now.geometry.block_size ≡ opening.geometry.block_size
@@ -88,7 +89,7 @@ module _ (opening now : RangeView) (history : List Entry) (stakes : List RangeSt
           ap (λ j. stored_of size (slice_get now.cells j)) place ∙ ap (stored_of size) at
           ∙ stored-content size (opening.first + i) c (content_at opening history i) stakes (record { home = un.home; clean = un.clean }) (t.blocks i c at)
 
-  module _ (number : ℕ) (claims : ClaimsView) (made : List Entry) (by : Tag) (here : get_elem? stakes number ≡ some (Some claims, made)) (after : RangeView) where
+  module _ (number : ℕ) (claims : ClaimsView) (made : List Entry) (by : Tag) (here : Works stakes number claims made) (after : RangeView) where
     -- the truth after the turn, whatever came of it
     pub dax_get_keeps : (answer : Result (Unit {0}) EventFault) → OnErr answer (after ≡ now) → OnOk answer (after ≡ after_dax_get now by from to)
         → RangeTruth opening after (history ++ dax_get_entry claims by seen from to answer ∷ []) (set stakes number (Some claims, made ++ dax_get_entry claims by seen from to answer ∷ []))

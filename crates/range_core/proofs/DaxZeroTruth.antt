@@ -33,6 +33,7 @@ use Rattle.range_core.proofs.StoreTruth.{if_met, if_unmet}
 use Rattle.range_core.proofs.ThroughTruth.{state-stays, through_truth, where_mapped_true}
 use Rattle.range_core.proofs.ZeroLemmas.{zeros_over}
 use Rattle.range_core.proofs.FoundLemmas.{bare-found, if_any}
+use Rattle.range_core.proofs.StakeTruth.{Works}
 
 module _ (opening now : RangeView) (history : List Entry) (stakes : List RangeStake) (seen : Sample) (from to : ℕ) (t : RangeTruth opening now history stakes) (bytes : IsThrough opening seen from to) where
   same_size : now.geometry.block_size ≡ opening.geometry.block_size
@@ -62,7 +63,7 @@ module _ (opening now : RangeView) (history : List Entry) (stakes : List RangeSt
     uncached = t.dax_is_uncached (t.same_run.mode ∙ bytes.dax);
   }
 
-  module _ (number : ℕ) (claims : ClaimsView) (made : List Entry) (by : Tag) (here : get_elem? stakes number ≡ some (Some claims, made)) (after : RangeView) (cut : IsByteRun (run_between now.geometry.block_size from to)) where
+  module _ (number : ℕ) (claims : ClaimsView) (made : List Entry) (by : Tag) (here : Works stakes number claims made) (after : RangeView) (cut : IsByteRun (run_between now.geometry.block_size from to)) where
     -- the truth after zeros that came about
     zeroed_truth : RangeTruth opening (after_dax_zero now by from to) (history ++ dax_zero_entry claims by seen from to (Ok tt) ∷ []) (set stakes number (Some claims, made ++ dax_zero_entry claims by seen from to (Ok tt) ∷ []))
     zeroed_truth =

@@ -61,9 +61,10 @@ use Rattle.range_core.specs.Happened.{is_out}
 use Rattle.range_core.proofs.FoundLemmas.{found_on, kind-found, out-found}
 use Rattle.range_core.proofs.LawfulLemmas.{both}
 use Rattle.io_model.specs.Kinds.{is_kind, kind_after}
+use Rattle.range_core.proofs.StakeTruth.{Works}
 
 module _ (opening now : RangeView) (history : List Entry) (stakes : List RangeStake) (number : ℕ) (claims : ClaimsView) (made : List Entry) (by : Tag) (op : Op) (back : Lent) (done : Done)
-    (t : RangeTruth opening now history stakes) (here : get_elem? stakes number ≡ some (Some claims, made)) (may : MayComeBack opening claims (Direct by op) op back done) where
+    (t : RangeTruth opening now history stakes) (here : Works stakes number claims made) (may : MayComeBack opening claims (Direct by op) op back done) where
   abbrev h : Held
   h = may.claim
 
@@ -145,7 +146,7 @@ module _ (opening now : RangeView) (history : List Entry) (stakes : List RangeSt
   others = set stakes number (Some (released claims), made ++ entry ∷ [])
 
   seat_changes : ChangesSeat stakes others claims (released claims)
-  seat_changes = record { number = number; made = made; now = made ++ entry ∷ []; here = here; is = refl }
+  seat_changes = record { number = number; made = made; now = made ++ entry ∷ []; here = here.here; is = refl }
 
   low_is : back.block - opening.first ≡ back.block - now.first
   low_is = let f = t.same_run.first in omega arith
@@ -360,7 +361,7 @@ pub record DirectReturned (now next : RangeView) (claims left : ClaimsView) (by 
   pub kept : KeepsPages op (pages_held claims.held) pages.items
 
 module _ (opening now : RangeView) (history : List Entry) (stakes : List RangeStake) (number : ℕ) (claims : ClaimsView) (made : List Entry) (change : EndDirect) (back : Lent)
-    (t : RangeTruth opening now history stakes) (here : get_elem? stakes number ≡ some (Some claims, made)) (ready : ReadyToReturn change opening claims) (given : change.back ≡ Some back) where
+    (t : RangeTruth opening now history stakes) (here : Works stakes number claims made) (ready : ReadyToReturn change opening claims) (given : change.back ≡ Some back) where
   pub may_return : MayComeBack opening claims (Direct change.by change.op) change.op back change.done
   may_return =
       let same : ready.back ≡ back = cc (ready.back_is, given) in

@@ -18,7 +18,7 @@ use Rattle.turn_cell.specs.Stakes.{Begins}
 use Rattle.range_core.specs.BlockStates.{lent_directly, state_of}
 use Rattle.range_core.specs.BlockTruth.{HomeContent, IsHomeContent, IsWholePage}
 use Rattle.range_core.specs.ClaimsView.{ClaimsView}
-use Rattle.range_core.specs.DirectLends.{CanLendDirect, ClaimsAnswer, GoesOut, ReadsZeros, ReadyToLend, TurnedToLend, after_lend_direct, away_direct, direct_answer, direct_lent, direct_loan, goes_out, lend_entry, lend_outcome, pages_in, zeroed, zeros_given}
+use Rattle.range_core.specs.DirectLends.{CanLendDirect, ClaimsAnswer, GoesOut, ReadsZeros, ReadyToLend, TurnedToLend, after_lend_direct, away_direct, direct_answer, direct_lent, direct_loan, goes_out, lend_entry, lend_outcome, pages_in, zeroed, zeros_given, AnswerLies}
 use Rattle.range_core.specs.Kinds.{has_space, is_mapped}
 use Rattle.range_core.specs.Lends.{TakesHold, lent_cell, parts_of}
 use Rattle.range_core.specs.Loans.{ChangesSeat}
@@ -59,6 +59,8 @@ use Rattle.range_core.proofs.StampedTruth.{stamped_truth}
 use Rattle.range_core.specs.Happened.{is_lendable, is_settled}
 use Rattle.range_core.proofs.FoundLemmas.{found_run, lendable-found, settled-found}
 use Rattle.range_core.proofs.LawfulLemmas.{both}
+use Rattle.range_core.proofs.StakeTruth.{Works}
+use Rattle.range_core.proofs.LiesLemmas.{loan_lies}
 
 -- a block that does not go out is not mapped
 unmapped : (op : Op) (k : Kind) → goes_out op k ≡ false → is_mapped k ≡ false
@@ -89,7 +91,7 @@ can_lend opening now history seen stakes claims change pages t begins ready is =
     })
 
 module _ (opening now : RangeView) (history : List Entry) (stakes : List RangeStake) (number : ℕ) (claims : ClaimsView) (made : List Entry) (by : Tag) (seen : Sample) (op : Op) (block : ℕ) (pages : List Page)
-    (t : RangeTruth opening now history stakes) (here : get_elem? stakes number ≡ some (Some claims, made)) (can : CanLendDirect now claims seen op block pages) (free : AreLendable now seen op block (length pages)) where
+    (t : RangeTruth opening now history stakes) (here : Works stakes number claims made) (can : CanLendDirect now claims seen op block pages) (free : AreLendable now seen op block (length pages)) where
   abbrev lent_entry : Entry
   lent_entry = record { caller = claims.caller; event = LendDirect by seen op block (length pages); outcome = Lending now.tickets (length pages) }
 
@@ -146,7 +148,7 @@ module _ (opening now : RangeView) (history : List Entry) (stakes : List RangeSt
       let many = t.same_run.blocks in
       let h : Held = hold.claim in
       let held : left.held ≡ Some h = ap (λ (c : ClaimsView). c.held) hold.left_is in
-      let change : ChangesSeat stakes others claims left = record { number = number; made = made; now = made ++ lent_entry ∷ []; here = here; is = refl } in
+      let change : ChangesSeat stakes others claims left = record { number = number; made = made; now = made ++ lent_entry ∷ []; here = here.here; is = refl } in
       let length_is : length h.lent.value.parts.items ≡ n = ap (λ (x : Lent). length x.parts.items) hold.lent_is ∙ length-parts_of low now.cells pages (omega arith) in
       let block_is : h.lent.value.block ≡ block = ap (λ (x : Lent). x.block) hold.lent_is in
       let places : block - opening.first ≡ low = omega arith in
@@ -262,7 +264,7 @@ pub record DirectAnswered (now next : RangeView) (claims left : ClaimsView) (by 
   pub unclaimed : OnErr result (left ≡ claims)
 
 module _ (opening now next : RangeView) (history seen : List Entry) (stakes : List RangeStake) (number : ℕ) (claims left : ClaimsView) (made : List Entry) (change later : LendPages) (pages : ArrayVec Page)
-    (t : RangeTruth opening now history stakes) (here : get_elem? stakes number ≡ some (Some claims, made)) (begins : Begins seen history) (ready : ReadyToLend change opening seen claims) (given : change.pages ≡ Some pages) (used : later ≡ record change { pages = None }) where
+    (t : RangeTruth opening now history stakes) (here : Works stakes number claims made) (begins : Begins seen history) (ready : ReadyToLend change opening seen claims) (given : change.pages ≡ Some pages) (used : later ≡ record change { pages = None }) where
   abbrev Turned : Result Answer DirectRefused → Type 0
   Turned result = Advanced RangeTruth (λ opening history entry. TurnedToLend change later opening history now next claims left result entry) opening next history stakes number left made
 
@@ -316,11 +318,27 @@ module _ (opening now next : RangeView) (history seen : List Entry) (stakes : Li
             claims_are = a.claims_are;
             entry_is = refl;
             reads = lies.1;
+            lies = answer_lies (goes_out change.op change.seen.extent.kind) refl;
           };
         };
         holds = lies.0;
       }
     where
+      answer_lies : (u : Bool) → goes_out change.op change.seen.extent.kind ≡ u → AnswerLies opening answer
+      answer_lies true out =
+          let loan : Answer = LentOut (direct_loan now change.block pages.items) in
+          let is : answer ≡ loan = a.answer ∙ ap (λ u. if u then loan else Zeros (record { items = map zeroed pages.items })) out in
+          let L : Answer → Type 0 = λ x. AnswerLies opening x in
+          let low = can.lies.low in
+          let high = can.lies.high in
+          let first = t.same_run.first in
+          subst L (sym is) (loan_lies opening now change.block now.tickets pages.items (direct_loan now change.block pages.items) t.same_run ready.lies.low can.lies.some (omega arith) refl)
+      answer_lies false out =
+          let zeros_in : Answer = Zeros (record { items = map zeroed pages.items }) in
+          let is : answer ≡ zeros_in = a.answer ∙ ap (λ u. if u then LentOut (direct_loan now change.block pages.items) else zeros_in) out in
+          let L : Answer → Type 0 = λ x. AnswerLies opening x in
+          subst L (sym is) tt
+
       at : AreLendable now change.seen change.op change.block (length pages.items) → (u : Bool) → goes_out change.op change.seen.extent.kind ≡ u → (After left next (entry_of (pages_in change) answer)) × ReadsZeros opening history change.block answer
       at free true out =
           let n : ℕ = length pages.items in

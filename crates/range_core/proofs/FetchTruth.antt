@@ -42,10 +42,11 @@ use Rattle.range_core.proofs.FoundLemmas.{found_met, page-found, warm-found}
 use Rattle.range_core.proofs.LawfulLemmas.{both}
 use Rattle.range_core.specs.Spots.{is_met}
 use Rattle.range_core.proofs.RunLemmas.{if_false, if_true}
+use Rattle.range_core.proofs.StakeTruth.{Works}
 
 -- the truth after an event that was refused
 pub refused_truth : (opening now : RangeView) (history : List Entry) (stakes : List RangeStake) (number : ℕ) (claims : ClaimsView) (made : List Entry) (event : Event) (fault : EventFault) → RangeTruth opening now history stakes
-    → get_elem? stakes number ≡ some (Some claims, made)
+    → Works stakes number claims made
     → RangeTruth opening now (history ++ record { caller = claims.caller; event = event; outcome = Refused fault } ∷ []) (set stakes number (Some claims, made ++ record { caller = claims.caller; event = event; outcome = Refused fault } ∷ []))
 refused_truth opening now history stakes number claims made event fault t here =
     quiet_truth opening now history (record { caller = claims.caller; event = event; outcome = Refused fault }) stakes number claims made t here (refused_is_quiet opening.geometry.block_size claims.caller event fault) tt refl
@@ -131,7 +132,7 @@ fetch_done claims by from to = record { caller = claims.caller; event = Fetch by
 
 -- the truth after a fetch that came about
 pub fetched_truth : (opening now : RangeView) (history : List Entry) (stakes : List RangeStake) (number : ℕ) (claims : ClaimsView) (made : List Entry) (by : Tag) (from to : ℕ) → RangeTruth opening now history stakes
-    → get_elem? stakes number ≡ some (Some claims, made) → IsInFolio opening from to → fetch_refusal now from to ≡ None → IsByteRun (run_between now.geometry.block_size from to)
+    → Works stakes number claims made → IsInFolio opening from to → fetch_refusal now from to ≡ None → IsByteRun (run_between now.geometry.block_size from to)
     → RangeTruth opening (after_fetch now by from to) (history ++ fetch_done claims by from to ∷ []) (set stakes number (Some claims, made ++ fetch_done claims by from to ∷ []))
 fetched_truth opening now history stakes number claims made by from to t here bytes free met_blocks =
     let size : ℕ = opening.geometry.block_size in
@@ -165,7 +166,7 @@ fetched_replay opening now history stakes by from to t bytes free =
     ap B same ∙ fetched_bytes opening now history stakes (run_between size from to) t refl able bytes.blocks
 
 module _ (opening now after : RangeView) (history : List Entry) (stakes : List RangeStake) (number : ℕ) (claims : ClaimsView) (made : List Entry) (by : Tag) (from to : ℕ) (t : RangeTruth opening now history stakes)
-    (here : get_elem? stakes number ≡ some (Some claims, made)) (bytes : IsInFolio opening from to) where
+    (here : Works stakes number claims made) (bytes : IsInFolio opening from to) where
   -- the entry of a fetch with this answer
   abbrev entry : Result (Unit {0}) EventFault → Entry
   entry answer = record { caller = claims.caller; event = Fetch by from to; outcome = finished answer }

@@ -1,6 +1,6 @@
 -- The turns that read blocks into the cache keep the truth.
-use Rattle.std.proofs.Common.{◌≡◌, ℕ, ◌+◌, ◌-◌, if◌then◌else◌, Some, None, Result, Ok, Err, IfOk, IfErr, OnOk, OnErr, List, [], ◌∷◌, ◌++◌, replicate, set, refl, sym, ◌∙◌, ap, subst, arith}
-use Rattle.std.specs.Prelude.{◌&&◌, ◌||◌, MatchResult, unwrap_or, is_none, is_some, not}
+use Rattle.std.proofs.Common.{◌≡◌, ℕ, ◌+◌, ◌-◌, if◌then◌else◌, Some, None, Result, Ok, Err, IfOk, IfErr, OnOk, OnErr, List, [], ◌∷◌, ◌++◌, replicate, set, refl, sym, ◌∙◌, ap, subst, arith, length}
+use Rattle.std.specs.Prelude.{◌&&◌, ◌||◌, MatchResult, unwrap_or, is_none, is_some, not, replicate}
 use Rattle.std.proofs.lemmas.List.{get_or-replicate, length-replicate}
 use Rattle.std.proofs.lemmas.Option.{slice_get-get_or}
 use mathlib.Core.Option.{some}
@@ -21,7 +21,7 @@ use Rattle.range_core.specs.Lends.{TakesHold, lent_cell}
 use Rattle.range_core.specs.Lookups.{first_kind}
 use Rattle.range_core.specs.RangeTruth.{RangeTruth, is_lent_for_writing, pending}
 use Rattle.range_core.specs.Pages.{zero_page}
-use Rattle.range_core.specs.RangeView.{RangeView, cells_from}
+use Rattle.range_core.specs.RangeView.{RangeView, cells_from, LiesAt}
 use Rattle.range_core.specs.Refusals.{lend_read_refusal}
 use Rattle.range_core.specs.Stakes.{RangeStake}
 use Rattle.range_core.specs.declared.entry.Entry.{Entry}
@@ -41,6 +41,8 @@ use Rattle.range_core.proofs.SoundLemmas.{total-moved}
 use Rattle.range_core.proofs.FoundLemmas.{found_run}
 use Rattle.range_core.proofs.LawfulLemmas.{both}
 use Rattle.range_core.specs.Happened.{is_cold_in}
+use Rattle.range_core.proofs.StakeTruth.{Works}
+use Rattle.range_core.proofs.LiesLemmas.{loan_lies}
 
 module _ (opening now : RangeView) (history : List Entry) (stakes : List RangeStake) (number : ℕ) (claims left : ClaimsView) (made : List Entry) (change : LendCold) where
   abbrev n : ℕ
@@ -62,7 +64,7 @@ module _ (opening now : RangeView) (history : List Entry) (stakes : List RangeSt
       (λ k c l at. let a : pending (lent_cell away c) ≡ pending c = ap (λ o. one_where (is_delalloc c.kind || (is_unwritten c.kind && is_lent_for_writing o))) (sym (run.cold k c l at).home) in omega arith) in
       omega arith
 
-  cold_holds : RangeTruth opening now history stakes → get_elem? stakes number ≡ some (Some claims, made) → MayFill opening claims change.block change.blocks → IsColdRun now.cells (change.block - now.first) n
+  cold_holds : RangeTruth opening now history stakes → Works stakes number claims made → MayFill opening claims change.block change.blocks → IsColdRun now.cells (change.block - now.first) n
       → TakesHold claims left (cold_loan now change.block change.blocks) Reading (first_kind (cells_from now change.block))
       → RangeTruth opening (lent_cold now change.block change.blocks) (history ++ loan ∷ []) (set stakes number (Some left, made ++ loan ∷ []))
   cold_holds t here may run hold =
@@ -113,12 +115,12 @@ pub record ColdClauses (now next : RangeView) (claims left : ClaimsView) (change
   pub ready : IfOk result (λ lent. CanTransfer lent.parts.items)
   pub claims_are : IfOk result (λ lent. TakesHold claims left lent Reading (first_kind (cells_from now change.block)))
 
-abbrev pub ColdDoes : LendCold → LendCold → RangeView → RangeView → ClaimsView → ClaimsView → Result Lent EventFault → Entry → Type 0
-ColdDoes change later before after claims left result entry = MatchResult result (λ lent. LentCold change later before after claims left lent entry) (λ fault. RefusedCold change later before after claims left fault entry)
+abbrev pub ColdDoes : RangeView → LendCold → LendCold → RangeView → RangeView → ClaimsView → ClaimsView → Result Lent EventFault → Entry → Type 0
+ColdDoes opening change later before after claims left result entry = MatchResult result (λ lent. LentCold opening change later before after claims left lent entry) (λ fault. RefusedCold change later before after claims left fault entry)
 
 pub cold_turn : (opening now next : RangeView) (history : List Entry) (stakes : List RangeStake) (number : ℕ) (claims left : ClaimsView) (made : List Entry) (change later : LendCold) (result : Result Lent EventFault) → RangeTruth opening now history stakes
-    → get_elem? stakes number ≡ some (Some claims, made) → MayFill opening claims change.block change.blocks → later ≡ change → ColdClauses now next claims left change result
-    → Advanced RangeTruth (λ _ _ entry. ColdDoes change later now next claims left result entry) opening next history stakes number left made
+    → Works stakes number claims made → MayFill opening claims change.block change.blocks → later ≡ change → ColdClauses now next claims left change result
+    → Advanced RangeTruth (λ opened _ entry. ColdDoes opened change later now next claims left result entry) opening next history stakes number left made
 cold_turn opening now next history stakes number claims left made change later (Err e) t here may same c =
     let entry : Entry = cold_entry claims change (Refused e) in
     let T : RangeView × ClaimsView → Type 0 = λ p. RangeTruth opening p.0 (history ++ entry ∷ []) (set stakes number (Some p.1, made ++ entry ∷ [])) in
@@ -135,9 +137,14 @@ cold_turn opening now next history stakes number claims left made change later (
     let n : ℕ = fill_length now change.block change.blocks in
     let entry : Entry = cold_entry claims change (Lending now.tickets n) in
     let next_is : next ≡ lent_cold now change.block change.blocks = c.state in
+    let pages : List Page = replicate n (zero_page now.geometry.block_size) in
+    let many : length pages ≡ n = length-replicate n (zero_page now.geometry.block_size) in
+    let some = c.run.some in
+    let within = c.run.within in
+    let lies : LiesAt opening lent.block (length lent.parts.items) = loan_lies opening now change.block now.tickets pages lent t.same_run may.lies.low (omega arith) (omega arith) c.lent in
     let N : RangeView → Type 0 = λ r. RangeTruth opening r (history ++ entry ∷ []) (set stakes number (Some left, made ++ entry ∷ [])) in
     record {
       entry = entry;
-      done = record { change_is = same; made = c.made; run = c.run; value = next_is; lent_is = c.lent; ready = c.ready; claims_are = c.claims_are; entry_is = refl };
+      done = record { change_is = same; made = c.made; run = c.run; value = next_is; lent_is = c.lent; ready = c.ready; claims_are = c.claims_are; entry_is = refl; lies = lies };
       holds = subst N (sym next_is) (cold_holds opening now history stakes number claims left made change t here may c.run (record { claim = c.claims_are.claim; left_is = c.claims_are.left_is; lent_is = c.claims_are.lent_is ∙ c.lent; lender_is = c.claims_are.lender_is; kind_is = c.claims_are.kind_is }));
     }

@@ -35,6 +35,7 @@ use Rattle.range_core.proofs.OnRunLemmas.{map-on_each}
 use Rattle.range_core.proofs.ReturnTurns.{back_named, back_pending, return_truth, back_within, now_lent}
 use Rattle.range_core.specs.Happened.{is_out}
 use Rattle.range_core.proofs.FoundLemmas.{found_run, out-found}
+use Rattle.range_core.proofs.StakeTruth.{Works}
 
 -- what a read that came back leaves of a block: its sector is as it was lent, and where all landed its page has the sector's bytes
 filled_true : (size b : ℕ) (was : Cell) (content : Content) (lent back : Part) (failed : Bool) (landed k : ℕ) (h : Held) (stakes others : List RangeStake) (claims left : ClaimsView) → ChangesSeat stakes others claims left
@@ -72,7 +73,7 @@ filled_state true p c = refl
 filled_state false p c = refl
 
 pub filled_holds : (opening now : RangeView) (history : List Entry) (stakes : List RangeStake) (number : ℕ) (claims : ClaimsView) (made : List Entry) (back : Lent) (done : Done) → RangeTruth opening now history stakes
-    → get_elem? stakes number ≡ some (Some claims, made) → MayComeBack opening claims Reading Read back done → RangeTruth opening (filled now back done) (history ++ fill_entry claims back done ∷ []) (set stakes number (Some (released claims), made ++ fill_entry claims back done ∷ []))
+    → Works stakes number claims made → MayComeBack opening claims Reading Read back done → RangeTruth opening (filled now back done) (history ++ fill_entry claims back done ∷ []) (set stakes number (Some (released claims), made ++ fill_entry claims back done ∷ []))
 filled_holds opening now history stakes number claims made back done truth here may =
     let size : ℕ = opening.geometry.block_size in
     let n : ℕ = length back.parts.items in

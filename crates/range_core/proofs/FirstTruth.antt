@@ -30,10 +30,11 @@ use Rattle.space_pool.specs.declared.entry.PoolEntry.{PoolEntry}
 use Rattle.turn_cell.specs.Views.{SeatView}
 use Rattle.range_core.specs.RangeTruth.{RangeTruth, pending}
 use Rattle.range_core.specs.RangeView.{range_of}
-use Rattle.range_core.specs.Stakes.{RangeStake, IsApart, names}
+use Rattle.range_core.specs.Stakes.{RangeStake, IsApart, names, strays}
 use Rattle.range_core.specs.declared.cell.Cell.{Cell}
 use Rattle.range_core.specs.declared.lending.Away.{Away}
 use Rattle.range_core.proofs.CellLemmas.{cells_of-home, length-cells_of, length-kinds_from}
+use Rattle.range_core.proofs.StakeTruth.{none_made}
 
 -- what holds of all blocks holds of each
 pub All-there : {A : Type 0} (P : A → Type 0) (xs : List A) (i : ℕ) (x : A) → All P xs → slice_get xs i ≡ Some x → P x
@@ -129,15 +130,20 @@ total-few f (x ∷ xs) h = omega (arith, h x, total-few f xs h)
 first_apart : (caller : ℕ) → caller < 2 ^ 32 → IsApart caller [] ((Some first_claims, []) ∷ [])
 first_apart caller h = at (nat_le 4294967296 (caller + 4294967295)) (nat_eq 0 caller) refl refl
   where
+    alone : total (strays caller) ((Some first_claims, []) ∷ []) ≡ 0
+    alone = let none : strays caller (Some first_claims, []) ≡ 0 = none_made caller first_claims in omega arith
+
     at : (t u : Bool) → nat_le 4294967296 (caller + 4294967295) ≡ t → nat_eq 0 caller ≡ u → IsApart caller [] ((Some first_claims, []) ∷ [])
     at true true l e = absurd (let a = leb-true _ _ l in let b = eqb-true _ _ e in omega arith)
     at true false l e = record {
       one = rw (l, e) (omega arith);
       unused = λ _. rw e refl;
+      own = λ _. alone;
     }
     at false u l e = record {
       one = rw l (weighs_less u e);
       unused = λ more. absurd (let z : 0 < one_where false + 0 = rw l at more in omega arith);
+      own = λ _. alone;
     }
       where
         weighs_less : (u : Bool) → nat_eq 0 caller ≡ u → one_where false + 0 + (one_where (nat_eq 0 caller) + 0) ≤ 1

@@ -6,6 +6,7 @@ pub mod ByteRunLemmas
 pub mod CellLemmas
 pub mod ChangeLemmas
 pub mod ClaimedPages
+pub mod ClosingLemmas
 pub mod ConversionLemmas
 pub mod CookieLemmas
 pub mod CountLemmas
@@ -28,6 +29,7 @@ pub mod FillBackLemmas
 pub mod FillLemmas
 pub mod FillTruth
 pub mod FilledTruth
+pub mod FindingLemmas
 pub mod FirstTruth
 pub mod FoundLemmas
 pub mod GatheredParts
@@ -40,6 +42,7 @@ pub mod LawfulLemmas
 pub mod LayLemmas
 pub mod LeadingLemmas
 pub mod LendLemmas
+pub mod LiesLemmas
 pub mod LoanLemmas
 pub mod LoanTruth
 pub mod LoanTurns
@@ -72,6 +75,7 @@ pub mod StampedTruth
 pub mod StopLemmas
 pub mod StoreLemmas
 pub mod StoreTruth
+pub mod SurveyLemmas
 pub mod ThroughLemmas
 pub mod ThroughTruth
 pub mod TransferLemmas

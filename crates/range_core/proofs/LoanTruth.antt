@@ -26,10 +26,11 @@ use Rattle.range_core.proofs.ReturnHomeLemmas.{away_space}
 use Rattle.range_core.proofs.LendLemmas.{parts_of-at}
 use Rattle.range_core.proofs.LoanLemmas.{loan_is_claimed, others_stay_claimed, return_frees_claim}
 use Rattle.range_core.proofs.ReturnLemmas.{claim_at}
+use Rattle.range_core.proofs.StakeTruth.{Works}
 
 -- the seat whose claim changes by an entry
-pub changes_seat : (stakes : List RangeStake) (number : ℕ) (claims left : ClaimsView) (made : List Entry) (e : Entry) → get_elem? stakes number ≡ some (Some claims, made) → ChangesSeat stakes (set stakes number (Some left, made ++ e ∷ [])) claims left
-changes_seat stakes number claims left made e here = record { number = number; made = made; now = made ++ e ∷ []; here = here; is = refl }
+pub changes_seat : (stakes : List RangeStake) (number : ℕ) (claims left : ClaimsView) (made : List Entry) (e : Entry) → Works stakes number claims made → ChangesSeat stakes (set stakes number (Some left, made ++ e ∷ [])) claims left
+changes_seat stakes number claims left made e here = record { number = number; made = made; now = made ++ e ∷ []; here = here.here; is = refl }
 
 -- a block that neither the claim before nor the claim after names is as true as it was
 pub true_outside : (size b : ℕ) (c : Cell) (content : Content) (stakes others : List RangeStake) (claims left : ClaimsView) → ChangesSeat stakes others claims left → names_block b claims.held ≡ false → names_block b left.held ≡ false
@@ -146,7 +147,7 @@ pub record IsLentBlock (size k : ℕ) (c : Cell) (content : Content) (h : Held) 
   pub ticket : away.ticket ≡ h.lent.value.ticket
 
 pub lent_block : (size b k : ℕ) (c : Cell) (content : Content) (stakes : List RangeStake) (number : ℕ) (claims : ClaimsView) (made : List Entry) (h : Held) → b ≡ h.lent.value.block + k → IsTrueAt size b c content stakes
-    → get_elem? stakes number ≡ some (Some claims, made) → claims.held ≡ Some h → names_block b (Some h) ≡ true → IsLentBlock size k c content h
+    → Works stakes number claims made → claims.held ≡ Some h → names_block b (Some h) ≡ true → IsLentBlock size k c content h
 lent_block size b k c content stakes number claims made h at t here held named =
     let claimed = claim_at size b c content stakes number claims made h t here held named in
     let fits = claimed.fits in

@@ -38,6 +38,7 @@ use Rattle.range_core.proofs.OnRunLemmas.{map-on_each}
 use Rattle.range_core.proofs.SampleLemmas.{samples_next}
 use Rattle.range_core.proofs.SpaceLemmas.{space_by_kinds}
 use Rattle.range_core.specs.Happened.{IsAsFound}
+use Rattle.range_core.proofs.StakeTruth.{Works}
 
 -- what a claim on so many blocks names
 loan_named : (block n x : ℕ) (claims left : ClaimsView) (claim : Held) → left ≡ holding claims claim → claim.lent.value.block ≡ block → length claim.lent.value.parts.items ≡ n → names_block x left.held ≡ in_run block n x
@@ -87,7 +88,7 @@ module _ (opening now : RangeView) (history : List Entry) (stakes : List RangeSt
   abbrev Holds : Type 0
   Holds = TakesHold claims left (lent_of now.tickets block (parts_of (cells_from now block) pages)) lender (first_kind (cells_from now block))
 
-  lent_inside : get_elem? stakes number ≡ some (Some claims, made) → claims.held ≡ None → (hold : Holds) → (k : ℕ) (was : Cell) (content : Content) → slice_get now.cells (low + k) ≡ Some was
+  lent_inside : Works stakes number claims made → claims.held ≡ None → (hold : Holds) → (k : ℕ) (was : Cell) (content : Content) → slice_get now.cells (low + k) ≡ Some was
       → IsTrueAt size (block + k) was content stakes → names_block (block + k) (Some hold.claim) ≡ true → LendsBlock k was content → IsTrueAt size (block + k) (lent_cell away was) content others
   lent_inside here free hold k was content at t named b =
       let kind : (lent_cell away was).kind ≡ was.kind = lent-kind away was in
@@ -97,7 +98,7 @@ module _ (opening now : RangeView) (history : List Entry) (stakes : List RangeSt
       (loan_fits size low block now.tickets k now.cells pages lender hold.claim was (lent_cell away was) b.page content hold.lent_is hold.lender_is at b.page_is (ap (λ q. kind_after q k) hold.kind_is ∙ b.kind ∙ sym kind) kind has b.whole b.fits)
       t
 
-  pub loan_truth : RangeTruth opening now history stakes → get_elem? stakes number ≡ some (Some claims, made) → opening.first ≤ block → claims.held ≡ None → Holds → length pages ≡ n → low + n ≤ length now.cells → IsLoan
+  pub loan_truth : RangeTruth opening now history stakes → Works stakes number claims made → opening.first ≤ block → claims.held ≡ None → Holds → length pages ≡ n → low + n ≤ length now.cells → IsLoan
       → ((k : ℕ) (was : Cell) (content : Content) → k < n → slice_get now.cells (low + k) ≡ Some was → IsTrueAt size (block + k) was content stakes → LendsBlock k was content)
       → max now.cookie WORN + total pending next.cells ≤ WORN + 65536 → (now.mode ≡ Dax → All IsUncached next.cells)
       → RangeTruth opening next (history ++ entry ∷ []) others

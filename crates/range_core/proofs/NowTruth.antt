@@ -30,13 +30,14 @@ use Rattle.range_core.proofs.FoundLemmas.{found_run, settled-found}
 use Rattle.range_core.specs.BlockStates.{without_page}
 use Rattle.range_core.specs.Spots.{in_run}
 use Rattle.range_core.specs.Kinds.{is_mapped}
+use Rattle.range_core.proofs.StakeTruth.{Works}
 
 abbrev drops : ℕ → Cell → Cell
 drops _ c = without_mapped_page c
 
 module _ (opening now : RangeView) (history : List Entry) (by : Tag) (b most : ℕ) (stakes : List RangeStake) (number : ℕ) (claims : ClaimsView) (made : List Entry) where
   -- the truth holds after n blocks were read that are at home and not dirty
-  read_truth : (n : ℕ) → RangeTruth opening now history stakes → get_elem? stakes number ≡ some (Some claims, made) → now.mode ≡ Cached → now.first ≤ b → n ≡ now_length (cells_from now b) most
+  read_truth : (n : ℕ) → RangeTruth opening now history stakes → Works stakes number claims made → now.mode ≡ Cached → now.first ≤ b → n ≡ now_length (cells_from now b) most
       → RangeTruth opening (after_direct_now now by b n) (history ++ now_entry claims by b most (Ok n) ∷ []) (set stakes number (Some claims, made ++ now_entry claims by b most (Ok n) ∷ []))
   read_truth n t here cached low count =
       let e : Entry = now_entry claims by b most (Ok n) in
@@ -76,7 +77,7 @@ module _ (opening now : RangeView) (history : List Entry) (by : Tag) (b most : �
       (record { caller = refl; spare = refl; main = refl }) refl
 
   -- the truth holds after the turn, whatever its answer
-  pub answered_truth : (next : RangeView) (answer : NowAnswer) → RangeTruth opening now history stakes → get_elem? stakes number ≡ some (Some claims, made) → now.mode ≡ Cached → now.first ≤ b
+  pub answered_truth : (next : RangeView) (answer : NowAnswer) → RangeTruth opening now history stakes → Works stakes number claims made → now.mode ≡ Cached → now.first ≤ b
       → IfOk answer (λ n. n ≡ now_length (cells_from now b) most) → IfOk answer (λ n. next ≡ after_direct_now now by b n) → OnErr answer (next ≡ now)
       → RangeTruth opening next (history ++ now_entry claims by b most answer ∷ []) (set stakes number (Some claims, made ++ now_entry claims by b most answer ∷ []))
   answered_truth next (Ok n) t here cached low count state same =

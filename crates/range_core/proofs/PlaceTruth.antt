@@ -25,7 +25,7 @@ use Rattle.range_core.specs.Lookups.{GivesPresent}
 use Rattle.range_core.specs.OnRun.{count_on, on_each}
 use Rattle.range_core.specs.Placing.{count_in, picked_with, placed_at}
 use Rattle.range_core.specs.RangeTruth.{IsUncached, RangeTruth, pending}
-use Rattle.range_core.specs.RangeView.{LiesAt, RangeView}
+use Rattle.range_core.specs.RangeView.{LiesAt, RangeView, part_in}
 use Rattle.range_core.specs.Space.{ClaimsSpace, SpaceClaims}
 use Rattle.range_core.specs.Spots.{in_run}
 use Rattle.range_core.specs.Stakes.{RangeStake}
@@ -43,6 +43,7 @@ use Rattle.range_core.proofs.PlaceLemmas.{length-pairs, state-placed, taken-in_r
 use Rattle.range_core.proofs.PlaceSpace.{All-got, PicksSpaceless, picked-placed}
 use Rattle.range_core.proofs.SampleLemmas.{samples_next}
 use Rattle.range_core.specs.Happened.{IsAsFound}
+use Rattle.range_core.proofs.StakeTruth.{Works}
 
 unmapped : (k : Kind) → has_space k ≡ false → is_mapped k ≡ false
 unmapped Hole e = refl
@@ -111,7 +112,7 @@ module _ (picks : Cell → Bool) (holes : Cell → ℕ) (opening now : RangeView
   abbrev f : ℕ → Cell → Cell
   f = placed_at picks (block - now.first) now.cells sectors
 
-  pub place_truth : RangeTruth opening now history stakes → get_elem? stakes number ≡ some (Some claims, made) → LiesAt opening block n → PicksSpaceless picks holes → seat.cell ≡ now.seat.cell → length sectors ≡ count_in picks now block n
+  pub place_truth : RangeTruth opening now history stakes → Works stakes number claims made → LiesAt opening block n → PicksSpaceless picks holes → part_in seat ≡ part_in now.seat → length sectors ≡ count_in picks now block n
       → All (HasSize opening.geometry.block_size) sectors → (0 < count_in picks now block n → now.cookie < WORN) → ClaimsSpace opening.geometry.block_size next.cells space → IsTaking opening.geometry.block_size now e (pairs_taken picks now block n sectors)
       → e.caller ≡ claims.caller → RangeTruth opening next (history ++ e ∷ []) (set stakes number (Some claims, made ++ e ∷ []))
   place_truth t here lies spaceless pool many whole unworn claimed taking by =

@@ -1,5 +1,5 @@
 -- What a turn at the pool tells of the claims of the seat that made it.
-use Rattle.std.proofs.Common.{◌≡◌, ℕ, zero, suc, ◌<◌, ◌≤◌, ◌==◌, Bool, true, false, if◌then◌else◌, List, [], Some, Ok, Err, min, nat_lt, refl, ap, subst, arith}
+use Rattle.std.proofs.Common.{◌≡◌, ℕ, zero, suc, ◌<◌, ◌≤◌, ◌==◌, Bool, true, false, if◌then◌else◌, List, [], Some, Ok, Err, min, nat_lt, refl, ap, subst, arith, ◌∙◌}
 use Rattle.std.proofs.lemmas.Bool.{eqb-false, ltb-true}
 use Rattle.iob_base.specs.DeviceBlock.{DeviceBlock}
 use Rattle.turn_cell.specs.Laws.{Stands}
@@ -12,6 +12,8 @@ use Rattle.space_pool.specs.Turns.{KeepsSeat, TakeTurns, TurnedAt}
 use Rattle.space_pool.specs.declared.claims.PoolClaims.{PoolClaims}
 use Rattle.space_pool.specs.declared.entry.PoolEntry.{PoolEntry}
 use Rattle.range_core.specs.PoolTurns.{PoolPlace, TakesAt, TurnsFor, claims_on}
+use Rattle.range_core.specs.RangeView.{part_in}
+use Rattle.turn_cell.specs.Views.{SeatView}
 
 -- a seat that stands at the pool claims no number twice
 pub stands-distinct : {opening value : PoolView} {history : List PoolEntry} {stakes : List PoolStake} {number : ℕ} {claims : PoolClaims} {made : List PoolEntry} → Stands PoolTruth opening value history stakes number claims made
@@ -46,10 +48,14 @@ some_reserved found n m least e = at (found == 0) refl e
         let more : found ≡ 0 → ⊥ = eqb-false found 0 t in
         (grind arith, grind arith)
 
--- a seat that made a turn for so many sectors, or none for no sector, stays at its pool
-pub kept_for : (n : ℕ) (turn : PoolPlace → PoolPlace → Type 0) → ((p q : PoolPlace) → turn p q → KeepsSeat p.seat q.seat) → (p q : PoolPlace) → TurnsFor n turn p q → q.seat.cell ≡ p.seat.cell
-kept_for zero turn keeps p q t = ap (λ (x : PoolPlace). x.seat.cell) t
-kept_for (suc n) turn keeps p q t = (keeps p q t).cell
+-- a seat that stays at its pool keeps its share of it
+pub part_kept : (p q : SeatView PoolEntry) → KeepsSeat p q → part_in q ≡ part_in p
+part_kept p q k = ap (λ c. (c, q.share)) k.cell ∙ ap (λ n. (p.cell, n)) k.share
+
+-- a seat that made a turn for so many sectors, or none for no sector, stays at its pool with its share
+pub kept_for : (n : ℕ) (turn : PoolPlace → PoolPlace → Type 0) → ((p q : PoolPlace) → turn p q → KeepsSeat p.seat q.seat) → (p q : PoolPlace) → TurnsFor n turn p q → part_in q.seat ≡ part_in p.seat
+kept_for zero turn keeps p q t = ap (λ (x : PoolPlace). part_in x.seat) t
+kept_for (suc n) turn keeps p q t = part_kept p.seat q.seat (keeps p q t)
 
 -- nothing was reserved where fewer were unreserved than were asked for
 pub none_reserved : (found n : ℕ) (e : NoSpace) → Err e ≡ reserve_answer found n → (e.wanted ≡ n) × (e.found < n)

@@ -21,7 +21,7 @@ use Rattle.range_core.specs.Lookups.{GivesPresent, extent_at, first_kind}
 use Rattle.range_core.specs.OnRun.{on_each}
 use Rattle.range_core.specs.PoolTurns.{LeavesAlone, ReservesSomeAt, place_of}
 use Rattle.range_core.specs.RangeTruth.{RangeTruth, pending}
-use Rattle.range_core.specs.RangeView.{RangeView}
+use Rattle.range_core.specs.RangeView.{RangeView, part_in}
 use Rattle.range_core.specs.Reserving.{AsksHoles, RefusesReserve, Reserves, promised_cell, reserve_fault, reserve_outcome, reserved_run, reserved_sample}
 use Rattle.range_core.specs.Refusals.{reserve_refusal, stale, worn}
 use Rattle.range_core.specs.Runs.{run_from, run_length}
@@ -44,6 +44,9 @@ use Rattle.range_core.proofs.SampleLemmas.{samples_next, slice_get-drop}
 use Rattle.range_core.proofs.SeatTruth.{refused_truth}
 use Rattle.range_core.proofs.StopLemmas.{neither, unworn}
 use Rattle.range_core.proofs.FoundLemmas.{found_run}
+use Rattle.range_core.proofs.PoolLemmas.{part_kept}
+use Rattle.range_core.proofs.StakeTruth.{Works}
+use Rattle.range_core.specs.Looks.{SampleLies}
 
 -- where a block has a page that passes no test, it is nothing
 none_and : {A : Type 0} (P Q : A → Type 0) (o : Option A) → ((x : A) → P x → Q x) → IsSomeAnd o P → IsSomeAnd o Q
@@ -109,7 +112,7 @@ module _ (opening now : RangeView) (seat : SeatView PoolEntry) (history : List E
   abbrev e : Entry
   e = record { caller = claims.caller; event = Reserve seen n; outcome = Sampled (reserved_sample now seen m) }
 
-  pub reserve_truth : RangeTruth opening now history stakes → get_elem? stakes number ≡ some (Some claims, made) → AsksHoles now seen n → seat.cell ≡ now.seat.cell → AreHoles now.cells (seen.extent.block - now.first) m
+  pub reserve_truth : RangeTruth opening now history stakes → Works stakes number claims made → AsksHoles now seen n → part_in seat ≡ part_in now.seat → AreHoles now.cells (seen.extent.block - now.first) m
       → 0 < m → m ≤ n → m ≤ STRIPE - seen.extent.block % STRIPE → now.cookie < WORN → RangeTruth opening (reserved_run now seen m seat) (history ++ e ∷ []) (set stakes number (Some claims, made ++ e ∷ []))
   reserve_truth t here asks pool holes least few stripe unworn =
       let size : ℕ = opening.geometry.block_size in
@@ -168,12 +171,22 @@ module _ (pool : PoolView) (before : RangeView) (seen : Sample) (n : ℕ) (after
   told_err (Ok s) is left = tt
   told_err (Err fault) is left = record { is = is; left = left }
 
+-- a sample of the blocks to which space was promised is of blocks of the range
+pub reserve_lies : (opening now next : RangeView) (seen : Sample) (n : ℕ) (pool : PoolView) (answer : Result Sample EventFault) → AsksHoles opening seen n → IfOk answer (Reserves pool now seen n next) → IfOk answer (SampleLies opening)
+reserve_lies opening now next seen n pool (Err fault) asks ok = tt
+reserve_lies opening now next seen n pool (Ok sample) asks ok =
+    let low = asks.inside.low in
+    let high = asks.inside.high in
+    let few = ok.few in
+    let block : sample.extent.block ≡ seen.extent.block = ap (λ (s : Sample). s.extent.block) ok.sample_is in
+    record { low = omega arith; some = ok.some; high = omega arith }
+
 module _ (pool : PoolView) (opening now next : RangeView) (history : List Entry) (stakes : List RangeStake) (number : ℕ) (claims : ClaimsView) (made : List Entry) (seen : Sample) (n : ℕ) where
   abbrev entry : Result Sample EventFault → Entry
   entry answer = record { caller = claims.caller; event = Reserve seen n; outcome = reserve_outcome answer }
 
   -- the truth holds whether the event came about or was refused
-  pub reserve_turn : (answer : Result Sample EventFault) → IfOk answer (Reserves pool now seen n next) → IfErr answer (RefusesReserve pool now seen n next) → RangeTruth opening now history stakes → get_elem? stakes number ≡ some (Some claims, made)
+  pub reserve_turn : (answer : Result Sample EventFault) → IfOk answer (Reserves pool now seen n next) → IfErr answer (RefusesReserve pool now seen n next) → RangeTruth opening now history stakes → Works stakes number claims made
       → AsksHoles now seen n → IsKnown now seen → RangeTruth opening next (history ++ entry answer ∷ []) (set stakes number (Some claims, made ++ entry answer ∷ []))
   reserve_turn (Ok sample) ok err t here asks known =
       let m : ℕ = sample.extent.length in
@@ -183,7 +196,7 @@ module _ (pool : PoolView) (opening now next : RangeView) (history : List Entry)
       let enough = asks.enough in
       let stripe = extent.stripe in
       let T : RangeView → Sample → Type 0 = λ r s. let x : Entry = record { caller = claims.caller; event = Reserve seen n; outcome = Sampled s } in RangeTruth opening r (history ++ x ∷ []) (set stakes number (Some claims, made ++ x ∷ [])) in
-      let holds = reserve_truth opening now next.seat history stakes number claims made seen n m t here asks ok.pool.keeps.cell (sampled_holes now seen n m asks known calm.0 few) ok.some few (omega arith) (unworn now calm.1) in
+      let holds = reserve_truth opening now next.seat history stakes number claims made seen n m t here asks (part_kept now.seat next.seat ok.pool.keeps) (sampled_holes now seen n m asks known calm.0 few) ok.some few (omega arith) (unworn now calm.1) in
       let U : Sample → Type 0 = λ s. T (reserved_run now seen m next.seat) s in
       let V : RangeView → Type 0 = λ r. T r sample in
       subst V (sym ok.state) (subst U (sym ok.sample_is) holds)

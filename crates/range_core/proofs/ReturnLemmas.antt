@@ -24,6 +24,7 @@ use Rattle.range_core.specs.declared.lending.Held.{Held}
 use Rattle.range_core.specs.declared.lending.Lender.{Lender}
 use Rattle.range_core.specs.declared.lending.Lent.{Lent}
 use Rattle.range_core.proofs.AfterRun.{in_run-true}
+use Rattle.range_core.proofs.StakeTruth.{Works}
 
 -- a block that a claim names is away, and the claim fits it
 pub record IsClaimed (size b : ℕ) (c : Cell) (content : Content) (h : Held) : Type 0 where
@@ -32,13 +33,13 @@ pub record IsClaimed (size b : ℕ) (c : Cell) (content : Content) (h : Held) : 
   pub fits : FitsClaim size b c content away h
 
 pub claim_at : (size b : ℕ) (c : Cell) (content : Content) (stakes : List RangeStake) (number : ℕ) (claims : ClaimsView) (made : List Entry) (h : Held) → IsTrueAt size b c content stakes
-    → get_elem? stakes number ≡ some (Some claims, made) → claims.held ≡ Some h → names_block b (Some h) ≡ true → IsClaimed size b c content h
+    → Works stakes number claims made → claims.held ≡ Some h → names_block b (Some h) ≡ true → IsClaimed size b c content h
 claim_at size b c content stakes number claims made h t here held named =
     let one : names b (Some claims, made) ≡ 1 = ap (λ x. one_where (names_block b x)) held ∙ ap one_where named in
-    let most : names b (Some claims, made) ≤ total (names b) stakes = total-at (names b) stakes number (Some claims, made) here in
+    let most : names b (Some claims, made) ≤ total (names b) stakes = total-at (names b) stakes number (Some claims, made) here.here in
     let once = t.away_is_claimed.once in
     let F : Option Held → Type 0 = λ x. FitsAway size b c content c.away x in
-    at c.away refl (omega arith) (subst F held (t.away_is_claimed.fits number (Some claims, made) here (omega arith)))
+    at c.away refl (omega arith) (subst F held (t.away_is_claimed.fits number (Some claims, made) here.here (omega arith)))
   where
     at : (a : Option Away) → c.away ≡ a → 1 ≤ gone c.away → FitsAway size b c content c.away (Some h) → IsClaimed size b c content h
     at None e g f = absurd (let z : gone c.away ≡ 0 = ap gone e in omega arith)
@@ -63,7 +64,7 @@ out_on size b k c content h at place claimed =
 
 -- the blocks of a seat's claim are all away on it
 pub are_out : (opening now : RangeView) (history : List Entry) (stakes : List RangeStake) (number : ℕ) (claims : ClaimsView) (made : List Entry) (h : Held) → RangeTruth opening now history stakes
-    → get_elem? stakes number ≡ some (Some claims, made) → claims.held ≡ Some h → LiesAt opening h.lent.value.block (length h.lent.value.parts.items) → AreOut now h
+    → Works stakes number claims made → claims.held ≡ Some h → LiesAt opening h.lent.value.block (length h.lent.value.parts.items) → AreOut now h
 are_out opening now history stakes number claims made h t here held lies =
     let first = t.same_run.first in
     let many = t.same_run.blocks in
@@ -84,7 +85,7 @@ are_out opening now history stakes number claims made h t here held lies =
 
 -- what a seat claims comes back to blocks that are out on it
 pub comes_back : (opening now : RangeView) (history : List Entry) (stakes : List RangeStake) (number : ℕ) (claims : ClaimsView) (made : List Entry) (lender : Lender) (op : Op) (back : Lent) (done : Done) → RangeTruth opening now history stakes
-    → get_elem? stakes number ≡ some (Some claims, made) → MayComeBack opening claims lender op back done → ComesBack now claims lender op back done
+    → Works stakes number claims made → MayComeBack opening claims lender op back done → ComesBack now claims lender op back done
 comes_back opening now history stakes number claims made lender op back done t here may = record {
   claim = may.claim;
   lent_for = may.lent_for;

@@ -37,6 +37,7 @@ use Rattle.range_core.proofs.ReturnLemmas.{are_out}
 use Rattle.range_core.proofs.SampleLemmas.{samples_next}
 use Rattle.range_core.proofs.SoundLemmas.{All-on_each_at, total-moved}
 use Rattle.range_core.specs.Happened.{IsAsFound}
+use Rattle.range_core.proofs.StakeTruth.{Works}
 
 module _ (opening now : RangeView) (history : List Entry) (stakes : List RangeStake) (number : ℕ) (claims : ClaimsView) (made : List Entry) (lender : Lender) (op : Op) (back : Lent) (done : Done) (entry : Entry) (f : ℕ → Cell → Cell) (log : List (ℕ × Stamp)) (cookie errors : ℕ) where
   abbrev size : ℕ
@@ -66,7 +67,7 @@ module _ (opening now : RangeView) (history : List Entry) (stakes : List RangeSt
     pub caller : entry.caller ≡ claims.caller
     pub found : IsAsFound size now entry
 
-  module _ (truth : RangeTruth opening now history stakes) (here : get_elem? stakes number ≡ some (Some claims, made)) (may : MayComeBack opening claims lender op back done) where
+  module _ (truth : RangeTruth opening now history stakes) (here : Works stakes number claims made) (may : MayComeBack opening claims lender op back done) where
     -- what comes back is what was claimed
     pub back_named : (x : ℕ) → names_block x (Some may.claim) ≡ in_run back.block n x
     back_named x =

@@ -10,7 +10,7 @@ use Rattle.turn_cell.specs.Views.{SeatView}
 use Rattle.range_core.specs.ClaimsView.{ClaimsView}
 use Rattle.range_core.specs.PoolTurns.{LeavesAlone, PoolPlace, at_seat, place_of}
 use Rattle.range_core.specs.RangeTruth.{RangeTruth}
-use Rattle.range_core.specs.RangeView.{RangeView}
+use Rattle.range_core.specs.RangeView.{RangeView, part_in}
 use Rattle.range_core.specs.Stakes.{RangeStake}
 use Rattle.range_core.specs.declared.entry.Entry.{Entry}
 use Rattle.range_core.specs.declared.entry.Event.{Event}
@@ -20,9 +20,11 @@ use Rattle.range_core.specs.declared.fault.EventFault.TheVariants as why
 use Rattle.range_core.proofs.AfterEntry.{quiet_truth}
 use Rattle.range_core.proofs.KindRuns.{keep_samples}
 use Rattle.range_core.proofs.RefusedLemmas.{refused_is_quiet}
+use Rattle.range_core.proofs.PoolLemmas.{part_kept}
+use Rattle.range_core.proofs.StakeTruth.{Works}
 
 -- the truth does not depend on what a seat at the same pool has seen and made there
-pub seat_truth : (opening now : RangeView) (seat : SeatView PoolEntry) (history : List Entry) (stakes : List RangeStake) → seat.cell ≡ now.seat.cell → RangeTruth opening now history stakes → RangeTruth opening (at_seat now seat) history stakes
+pub seat_truth : (opening now : RangeView) (seat : SeatView PoolEntry) (history : List Entry) (stakes : List RangeStake) → part_in seat ≡ part_in now.seat → RangeTruth opening now history stakes → RangeTruth opening (at_seat now seat) history stakes
 seat_truth opening now seat history stakes same t = record {
   same_run = record { geometry = t.same_run.geometry; mode = t.same_run.mode; first = t.same_run.first; blocks = t.same_run.blocks; pool = same ∙ t.same_run.pool };
   few = t.few;
@@ -50,7 +52,7 @@ module _ (opening now next : RangeView) (history : List Entry) (stakes : List Ra
 
   -- the truth holds where an event was refused, and nothing but the seat at the pool changed
   pub refused_truth : (turn : NoSpace → PoolPlace → PoolPlace → Type 0) → ((none : NoSpace) (p q : PoolPlace) → turn none p q → KeepsSeat p.seat q.seat) → (fault : EventFault) → LeavesAlone turn fault now next
-      → RangeTruth opening now history stakes → get_elem? stakes number ≡ some (Some claims, made) → TruthAfter next fault
+      → RangeTruth opening now history stakes → Works stakes number claims made → TruthAfter next fault
   refused_truth turn keeps fault left t here = at fault left
     where
       quiet : (fault : EventFault) (r : RangeView) → RangeTruth opening r history stakes → TruthAfter r fault
@@ -71,5 +73,5 @@ module _ (opening now next : RangeView) (history : List Entry) (stakes : List Ra
       at (why.NoSpace a b) left =
           let kept = keeps (no_space a b) (place_of now) (place_of next) left.1 in
           let T : RangeView → Type 0 = λ r. TruthAfter r (why.NoSpace a b) in
-          subst T (sym left.0) (quiet (why.NoSpace a b) (at_seat now next.seat) (seat_truth opening now next.seat history stakes kept.cell t))
+          subst T (sym left.0) (quiet (why.NoSpace a b) (at_seat now next.seat) (seat_truth opening now next.seat history stakes (part_kept now.seat next.seat kept) t))
       at (why.Poison a) left = stays (why.Poison a) left

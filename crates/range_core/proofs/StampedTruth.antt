@@ -23,6 +23,7 @@ use Rattle.range_core.proofs.OnRunLemmas.{on_each-none}
 use Rattle.range_core.proofs.SampleLemmas.{samples_next}
 use Rattle.range_core.proofs.SoundLemmas.{sound_next, stamps_from-range}
 use Rattle.range_core.specs.Happened.{IsAsFound}
+use Rattle.range_core.proofs.StakeTruth.{Works}
 
 -- No block has another content, kind, dirty bit or ticket after the entry of this caller, none of the counts rose, and it left these stamps
 pub record OnlyStamps (size caller : ℕ) (now : RangeView) (e : Entry) (stamps : List (ℕ × Stamp)) : Type 0 where
@@ -37,7 +38,7 @@ pub record OnlyStamps (size caller : ℕ) (now : RangeView) (e : Entry) (stamps 
   pub found : IsAsFound size now e
 
 pub stamped_truth : (opening now : RangeView) (history : List Entry) (e : Entry) (stamps : List (ℕ × Stamp)) (stakes : List RangeStake) (number : ℕ) (claims : ClaimsView) (made : List Entry) → RangeTruth opening now history stakes
-    → get_elem? stakes number ≡ some (Some claims, made) → OnlyStamps opening.geometry.block_size claims.caller now e stamps
+    → Works stakes number claims made → OnlyStamps opening.geometry.block_size claims.caller now e stamps
     → RangeTruth opening (with_stamps now stamps) (history ++ e ∷ []) (set stakes number (Some claims, made ++ e ∷ []))
 stamped_truth opening now history e stamps stakes number claims made t here only =
     let size : ℕ = opening.geometry.block_size in

@@ -41,6 +41,7 @@ use Rattle.range_core.proofs.FoundLemmas.{found_met, page-found, part-found}
 use Rattle.range_core.proofs.LawfulLemmas.{both}
 use Rattle.range_core.specs.Happened.{keeps_page, is_cold_in}
 use Rattle.iob_base.specs.declared.sector.Page.{Page}
+use Rattle.range_core.proofs.StakeTruth.{Works}
 
 -- no block of a run hinders a store over it
 abbrev pub AreStorable : RangeView → ByteRun → Type 0
@@ -116,7 +117,7 @@ module _ (opening now : RangeView) (history : List Entry) (stakes : List RangeSt
   store_done answer = record { caller = claims.caller; event = Store by seen from to bytes; outcome = finished answer }
 
   -- the truth after a store that came about
-  stored_truth : RangeTruth opening now history stakes → get_elem? stakes number ≡ some (Some claims, made) → IsInFolio opening from to → LieInExtent opening from to seen.extent → is_hole seen.extent.kind ≡ false → length bytes ≡ to - from
+  stored_truth : RangeTruth opening now history stakes → Works stakes number claims made → IsInFolio opening from to → LieInExtent opening from to seen.extent → is_hole seen.extent.kind ≡ false → length bytes ≡ to - from
       → IsKnown now seen → IsByteRun (run_between now.geometry.block_size from to) → store_refusal now seen from to ≡ None
       → RangeTruth opening (after_store now by from to bytes) (history ++ store_done (Ok tt) ∷ []) (set stakes number (Some claims, made ++ store_done (Ok tt) ∷ []))
   stored_truth t here folio extent space all known cut free =
@@ -158,7 +159,7 @@ module _ (opening now : RangeView) (history : List Entry) (stakes : List RangeSt
       }))
 
   -- the truth after a store, whatever came of it
-  pub store_keeps : (after : RangeView) → RangeTruth opening now history stakes → get_elem? stakes number ≡ some (Some claims, made) → IsInFolio opening from to → LieInExtent opening from to seen.extent → is_hole seen.extent.kind ≡ false → length bytes ≡ to - from
+  pub store_keeps : (after : RangeView) → RangeTruth opening now history stakes → Works stakes number claims made → IsInFolio opening from to → LieInExtent opening from to seen.extent → is_hole seen.extent.kind ≡ false → length bytes ≡ to - from
       → IsKnown now seen → IsByteRun (run_between now.geometry.block_size from to) → (answer : Result (Unit {0}) EventFault) → OnOk answer (store_refusal now seen from to ≡ None) → OnErr answer (after ≡ now) → OnOk answer (after ≡ after_store now by from to bytes)
       → RangeTruth opening after (history ++ store_done answer ∷ []) (set stakes number (Some claims, made ++ store_done answer ∷ []))
   store_keeps after t here folio extent space all known cut (Ok x) free unchanged state =

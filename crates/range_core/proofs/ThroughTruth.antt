@@ -35,6 +35,7 @@ use Rattle.range_core.proofs.ThroughLemmas.{either_mapped, place-changed}
 use Rattle.io_model.specs.Contents.{zeros}
 use Rattle.io_model.specs.declared.file.Kind.{Kind}
 use Rattle.iob_base.specs.DeviceBlock.{DeviceBlock}
+use Rattle.range_core.proofs.StakeTruth.{Works}
 
 -- each block keeps all but its sector
 pub record KeepsStates (f : ℕ → Cell → Cell) : Type 0 where
@@ -75,7 +76,7 @@ module _ (f : ℕ → Cell → Cell) (keeps : KeepsStates f) where
   space_stays size low n cells space h = space_by_kinds size cells (on_each f 0 low n cells) space (kinds_stay low n cells) h
 
   pub through_truth : (opening now : RangeView) (history : List Entry) (e : Entry) (stakes : List RangeStake) (number : ℕ) (claims : ClaimsView) (made : List Entry) (by : Tag) (run : ByteRun) → RangeTruth opening now history stakes
-      → get_elem? stakes number ≡ some (Some claims, made) → opening.first ≤ run.first → StampsRun opening.geometry.block_size claims.caller now (after_bytes f now by run) by run e
+      → Works stakes number claims made → opening.first ≤ run.first → StampsRun opening.geometry.block_size claims.caller now (after_bytes f now by run) by run e
       → ActsOnRun opening.geometry.block_size opening.first now stakes f run e
       → RangeTruth opening (after_bytes f now by run) (history ++ e ∷ []) (set stakes number (Some claims, made ++ e ∷ []))
   through_truth opening now history e stakes number claims made by run t here low s acts =

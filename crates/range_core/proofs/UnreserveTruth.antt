@@ -11,7 +11,7 @@ use Rattle.range_core.specs.Kinds.{is_delalloc}
 use Rattle.range_core.specs.OnRun.{on_each}
 use Rattle.range_core.specs.Placing.{count_in, is_unused}
 use Rattle.range_core.specs.RangeTruth.{IsUncached, RangeTruth, pending}
-use Rattle.range_core.specs.RangeView.{LiesAt, RangeView}
+use Rattle.range_core.specs.RangeView.{LiesAt, RangeView, part_in}
 use Rattle.range_core.specs.Reserving.{released, unreserved_run}
 use Rattle.range_core.specs.Stakes.{RangeStake}
 use Rattle.range_core.specs.declared.cell.Cell.{Cell}
@@ -27,6 +27,7 @@ use Rattle.range_core.proofs.KindRuns.{kinds_of}
 use Rattle.range_core.proofs.OnRunLemmas.{All-on_each}
 use Rattle.range_core.proofs.ReleaseLemmas.{released-other, released-pending, released-state, released-true, released-uncached, space_released}
 use Rattle.range_core.proofs.SampleLemmas.{samples_next}
+use Rattle.range_core.proofs.StakeTruth.{Works}
 
 module _ (opening now : RangeView) (seat : SeatView PoolEntry) (history : List Entry) (stakes : List RangeStake) (number : ℕ) (claims : ClaimsView) (made : List Entry) (block n k : ℕ) where
   abbrev f : ℕ → Cell → Cell
@@ -41,7 +42,7 @@ module _ (opening now : RangeView) (seat : SeatView PoolEntry) (history : List E
   abbrev others : List RangeStake
   others = set stakes number (Some claims, made ++ e ∷ [])
 
-  pub unreserve_truth : RangeTruth opening now history stakes → get_elem? stakes number ≡ some (Some claims, made) → LiesAt opening block n → seat.cell ≡ now.seat.cell → k ≡ count_in is_unused now block n
+  pub unreserve_truth : RangeTruth opening now history stakes → Works stakes number claims made → LiesAt opening block n → part_in seat ≡ part_in now.seat → k ≡ count_in is_unused now block n
       → RangeTruth opening next (history ++ e ∷ []) others
   unreserve_truth t here lies pool counted =
       let size : ℕ = opening.geometry.block_size in

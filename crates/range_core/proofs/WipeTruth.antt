@@ -21,7 +21,7 @@ use Rattle.range_core.specs.OnRun.{on_each}
 use Rattle.range_core.specs.Placing.{is_used}
 use Rattle.range_core.specs.PoolTurns.{GivesAt, UnreservesAt, place_of}
 use Rattle.range_core.specs.RangeTruth.{IsUncached, RangeTruth, pending}
-use Rattle.range_core.specs.RangeView.{IsSound, LiesAt, RangeView}
+use Rattle.range_core.specs.RangeView.{IsSound, LiesAt, RangeView, part_in}
 use Rattle.range_core.specs.Refusals.{away, first_that_stops, run_of, some_block, wipe_refusal, worn}
 use Rattle.range_core.specs.Space.{ClaimsSpace}
 use Rattle.range_core.specs.Stakes.{RangeStake}
@@ -50,6 +50,7 @@ use Rattle.range_core.proofs.StopLemmas.{neither}
 use Rattle.range_core.proofs.WipeLemmas.{all_home, home_at, wipes}
 use Rattle.range_core.specs.Happened.{is_at_home}
 use Rattle.range_core.proofs.FoundLemmas.{found_run}
+use Rattle.range_core.proofs.StakeTruth.{Works}
 
 -- a hole reads as zeros
 wiped-true : (size b : ℕ) (c : Cell) (content : Content) (stakes : List RangeStake) → c.away ≡ None → IsTrueAt size b c content stakes → IsTrueAt size b (wiped c) (zeros size) stakes
@@ -82,7 +83,7 @@ module _ (opening now : RangeView) (seat : SeatView PoolEntry) (history : List E
   abbrev others : List RangeStake
   others = set stakes number (Some claims, made ++ e ∷ [])
 
-  pub wipe_truth : RangeTruth opening now history stakes → get_elem? stakes number ≡ some (Some claims, made) → LiesAt opening block n → seat.cell ≡ now.seat.cell → k ≡ used_in now block n → wipe_refusal now block n ≡ None
+  pub wipe_truth : RangeTruth opening now history stakes → Works stakes number claims made → LiesAt opening block n → part_in seat ≡ part_in now.seat → k ≡ used_in now block n → wipe_refusal now block n ≡ None
       → ClaimsSpace opening.geometry.block_size next.cells next.space → RangeTruth opening next (history ++ e ∷ []) others
   wipe_truth t here lies pool counted calm claimed =
       let size : ℕ = opening.geometry.block_size in
@@ -133,7 +134,7 @@ module _ (pool : PoolView) (opening now next : RangeView) (history : List Entry)
 
   -- the truth holds whether the event came about or was refused
   pub wipe_turn : (answer : Result ℕ EventFault) → OnOk answer (wipe_refusal now block n ≡ None) → IfOk answer (Wipes pool now by block n next) → OnErr answer (next ≡ now) → IsSound next → RangeTruth opening now history stakes
-      → get_elem? stakes number ≡ some (Some claims, made) → LiesAt opening block n → RangeTruth opening next (history ++ entry answer ∷ []) (set stakes number (Some claims, made ++ entry answer ∷ []))
+      → Works stakes number claims made → LiesAt opening block n → RangeTruth opening next (history ++ entry answer ∷ []) (set stakes number (Some claims, made ++ entry answer ∷ []))
   wipe_turn (Ok changed) calm ok unchanged sound t here lies =
       let e : Entry = record { caller = claims.caller; event = Wipe by block n; outcome = Counted changed } in
       let V : RangeView = wiped_run now by block n next.seat in

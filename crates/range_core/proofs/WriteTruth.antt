@@ -20,7 +20,7 @@ use Rattle.range_core.specs.Kinds.{is_unwritten, has_space}
 use Rattle.range_core.specs.Lends.{TakesHold, lent_cell}
 use Rattle.range_core.specs.Lookups.{first_kind}
 use Rattle.range_core.specs.RangeTruth.{IsUncached, RangeTruth, content_at, pending}
-use Rattle.range_core.specs.RangeView.{RangeView, cells_from}
+use Rattle.range_core.specs.RangeView.{RangeView, cells_from, LiesAt}
 use Rattle.range_core.specs.Refusals.{at_first, away, lend_writeback_refusal, not_ready, some_block, worn}
 use Rattle.range_core.specs.Stakes.{RangeStake}
 use Rattle.range_core.specs.Writebacks.{IsDirtyRun, IsWritable, LentDirty, MayWrite, RefusedDirty, copied, dirty_entry, dirty_loan, lent_dirty, page_copy, write_length}
@@ -46,6 +46,8 @@ use Rattle.range_core.proofs.WriteLemmas.{copies-length, mapped_of, pending-few,
 use Rattle.range_core.proofs.FoundLemmas.{found_run}
 use Rattle.range_core.proofs.LawfulLemmas.{both}
 use Rattle.range_core.specs.Happened.{is_at_home}
+use Rattle.range_core.proofs.StakeTruth.{Works}
+use Rattle.range_core.proofs.LiesLemmas.{loan_lies}
 
 -- the page of a dirty block
 record HasPage (c : Cell) (content : Content) : Type 0 where
@@ -125,7 +127,7 @@ module _ (opening now : RangeView) (history : List Entry) (stakes : List RangeSt
           let r = t.cookie_has_headroom in
           omega arith
 
-  dirty_holds : RangeTruth opening now history stakes → get_elem? stakes number ≡ some (Some claims, made) → MayWrite opening claims change.block change.blocks → lend_writeback_refusal now change.block ≡ None → IsDirtyRun now.cells low n
+  dirty_holds : RangeTruth opening now history stakes → Works stakes number claims made → MayWrite opening claims change.block change.blocks → lend_writeback_refusal now change.block ≡ None → IsDirtyRun now.cells low n
       → TakesHold claims left (dirty_loan now change.block change.blocks) Writeback (first_kind (cells_from now change.block))
       → RangeTruth opening next (history ++ loan ∷ []) (set stakes number (Some left, made ++ loan ∷ []))
   dirty_holds t here may free run hold =
@@ -177,12 +179,12 @@ pub record DirtyClauses (now next : RangeView) (claims left : ClaimsView) (chang
   pub ready : IfOk result (λ lent. CanTransfer lent.parts.items)
   pub claims_are : IfOk result (λ lent. TakesHold claims left lent Writeback (first_kind (cells_from now change.block)))
 
-abbrev pub DirtyDoes : LendDirty → LendDirty → RangeView → RangeView → ClaimsView → ClaimsView → Result Lent EventFault → Entry → Type 0
-DirtyDoes change later before after claims left result entry = MatchResult result (λ lent. LentDirty change later before after claims left lent entry) (λ fault. RefusedDirty change later before after claims left fault entry)
+abbrev pub DirtyDoes : RangeView → LendDirty → LendDirty → RangeView → RangeView → ClaimsView → ClaimsView → Result Lent EventFault → Entry → Type 0
+DirtyDoes opening change later before after claims left result entry = MatchResult result (λ lent. LentDirty opening change later before after claims left lent entry) (λ fault. RefusedDirty change later before after claims left fault entry)
 
 pub dirty_turn : (opening now next : RangeView) (history : List Entry) (stakes : List RangeStake) (number : ℕ) (claims left : ClaimsView) (made : List Entry) (change later : LendDirty) (result : Result Lent EventFault) → RangeTruth opening now history stakes
-    → get_elem? stakes number ≡ some (Some claims, made) → MayWrite opening claims change.block change.blocks → later ≡ change → DirtyClauses now next claims left change result
-    → Advanced RangeTruth (λ _ _ entry. DirtyDoes change later now next claims left result entry) opening next history stakes number left made
+    → Works stakes number claims made → MayWrite opening claims change.block change.blocks → later ≡ change → DirtyClauses now next claims left change result
+    → Advanced RangeTruth (λ opened _ entry. DirtyDoes opened change later now next claims left result entry) opening next history stakes number left made
 dirty_turn opening now next history stakes number claims left made change later (Err e) t here may same c =
     let entry : Entry = dirty_entry claims change (Refused e) in
     let next_is : next ≡ now = c.unchanged in
@@ -197,10 +199,16 @@ dirty_turn opening now next history stakes number claims left made change later 
 dirty_turn opening now next history stakes number claims left made change later (Ok lent) t here may same c =
     let entry : Entry = dirty_entry claims change (Lending now.tickets (write_length now change.block change.blocks)) in
     let next_is : next ≡ lent_dirty now change.block change.blocks = c.state in
+    let n : ℕ = write_length now change.block change.blocks in
+    let pages : List Page = map page_copy (take n (cells_from now change.block)) in
+    let many : length pages ≡ n = copies-length (change.block - now.first) n now.cells c.run.within in
+    let some = c.run.some in
+    let within = c.run.within in
+    let lies : LiesAt opening lent.block (length lent.parts.items) = loan_lies opening now change.block now.tickets pages lent t.same_run may.lies.low (omega arith) (omega arith) c.lent in
     let N : RangeView → Type 0 = λ r. RangeTruth opening r (history ++ entry ∷ []) (set stakes number (Some left, made ++ entry ∷ [])) in
     record {
       entry = entry;
-      done = record { change_is = same; made = c.made; run = c.run; value = next_is; lent_is = c.lent; ready = c.ready; claims_are = c.claims_are; entry_is = refl };
+      done = record { change_is = same; made = c.made; run = c.run; value = next_is; lent_is = c.lent; ready = c.ready; claims_are = c.claims_are; entry_is = refl; lies = lies };
       holds = subst N (sym next_is) (dirty_holds opening now history stakes number claims left made change t here may c.made c.run
           (record { claim = c.claims_are.claim; left_is = c.claims_are.left_is; lent_is = c.claims_are.lent_is ∙ c.lent; lender_is = c.claims_are.lender_is; kind_is = c.claims_are.kind_is }));
     }

@@ -48,6 +48,7 @@ use Rattle.range_core.proofs.WriteLemmas.{ended_home, home_pending, lent_pending
 use Rattle.range_core.specs.Happened.{is_out}
 use Rattle.range_core.proofs.FoundLemmas.{found_run, kind-found, out-found}
 use Rattle.range_core.proofs.LawfulLemmas.{both}
+use Rattle.range_core.proofs.StakeTruth.{Works}
 
 -- what a write that came back leaves of a block: where it failed the block is dirty, and else its sector has the page's bytes, unless a store changed them
 ended_true : (size b : ℕ) (was : Cell) (content : Content) (lent back : Part) (failed : Bool) (landed k : ℕ) (h : Held) (stakes others : List RangeStake) (claims left : ClaimsView) → ChangesSeat stakes others claims left
@@ -105,7 +106,7 @@ mapped-kind parts k c e = at (slice_get parts k)
     at None = refl
     at (Some p) = written_same c.kind e
 
-module _ (opening now : RangeView) (history : List Entry) (stakes : List RangeStake) (number : ℕ) (claims : ClaimsView) (made : List Entry) (back : Lent) (done : Done) (count : ℕ) (truth : RangeTruth opening now history stakes) (here : get_elem? stakes number ≡ some (Some claims, made)) (may : MayComeBack opening claims Writeback Write back done) where
+module _ (opening now : RangeView) (history : List Entry) (stakes : List RangeStake) (number : ℕ) (claims : ClaimsView) (made : List Entry) (back : Lent) (done : Done) (count : ℕ) (truth : RangeTruth opening now history stakes) (here : Works stakes number claims made) (may : MayComeBack opening claims Writeback Write back done) where
   abbrev size : ℕ
   size = opening.geometry.block_size
 

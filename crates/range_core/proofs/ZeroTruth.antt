@@ -40,6 +40,7 @@ use Rattle.range_core.proofs.ZeroLemmas.{either_zero, zeroed_keeps, zeros_over}
 use Rattle.range_core.proofs.FoundLemmas.{found_met, page-found, part-found}
 use Rattle.range_core.specs.Happened.{keeps_page, is_cold_in}
 use Rattle.range_core.proofs.LawfulLemmas.{both}
+use Rattle.range_core.proofs.StakeTruth.{Works}
 
 untrue : (t : Bool) → not t ≡ true → t ≡ false
 untrue true e = absurd (cc)
@@ -117,7 +118,7 @@ module _ (opening now : RangeView) (history : List Entry) (stakes : List RangeSt
   zeros_done answer = record { caller = claims.caller; event = StoreZeros by seen from to; outcome = finished answer }
 
   -- the truth after a store of zeros that came about
-  zeroed_truth : RangeTruth opening now history stakes → get_elem? stakes number ≡ some (Some claims, made) → IsInFolio opening from to → IsByteRun (run_between now.geometry.block_size from to) → store_refusal now seen from to ≡ None
+  zeroed_truth : RangeTruth opening now history stakes → Works stakes number claims made → IsInFolio opening from to → IsByteRun (run_between now.geometry.block_size from to) → store_refusal now seen from to ≡ None
       → RangeTruth opening (after_zeros now by from to) (history ++ zeros_done (Ok tt) ∷ []) (set stakes number (Some claims, made ++ zeros_done (Ok tt) ∷ []))
   zeroed_truth t here folio cut free =
       let size : ℕ = opening.geometry.block_size in
@@ -156,7 +157,7 @@ module _ (opening now : RangeView) (history : List Entry) (stakes : List RangeSt
       }))
 
   -- the truth after a store of zeros, whatever came of it
-  pub zeros_keep : (after : RangeView) → RangeTruth opening now history stakes → get_elem? stakes number ≡ some (Some claims, made) → IsInFolio opening from to → IsByteRun (run_between now.geometry.block_size from to)
+  pub zeros_keep : (after : RangeView) → RangeTruth opening now history stakes → Works stakes number claims made → IsInFolio opening from to → IsByteRun (run_between now.geometry.block_size from to)
       → (answer : Result (Unit {0}) EventFault) → OnOk answer (store_refusal now seen from to ≡ None) → OnErr answer (after ≡ now) → OnOk answer (after ≡ after_zeros now by from to)
       → RangeTruth opening after (history ++ zeros_done answer ∷ []) (set stakes number (Some claims, made ++ zeros_done answer ∷ []))
   zeros_keep after t here folio cut (Ok x) free unchanged state =

@@ -24,6 +24,10 @@ rest_claims c = record c { spare = c.spare - 1 }
 abbrev pub ticket_claims : ClaimsView → ClaimsView
 ticket_claims c = record { caller = c.caller; spare = 0; main = false; held = None }
 
+-- the claims of a seat that is split off together with a loan: the same caller, no spare number, and the blocks lent
+abbrev pub loan_claims : ClaimsView → ClaimsView
+loan_claims c = record { caller = c.caller; spare = 0; main = false; held = c.held }
+
 -- of two claims on lent blocks, the one that there is
 abbrev pub either_held : Option Held → Option Held → Option Held
 either_held None other = other
@@ -40,7 +44,13 @@ holding c held = record c { held = Some held }
 abbrev pub released : ClaimsView → ClaimsView
 released c = record c { held = None }
 
--- at most one of two seats has a claim, and at most one has spare numbers
+-- at most one of two seats has a claim, at most one has spare numbers, and a seat that is no caller's own joins only one of its own number
 pub record MayMerge (into from : ClaimsView) : Type 0 where
   pub one_held : (into.held ≡ None) ⊎ (from.held ≡ None)
   pub one_spare : (into.spare ≡ 0) ⊎ (from.spare ≡ 0)
+  pub own : from.main ≡ false → from.caller ≡ into.caller
+
+-- What each turn asks: it is made on a caller's own seat, since one that carries a loan makes none, and its event may be made
+pub record MayTurn (claims : ClaimsView) (event : Type 0) : Type 0 where
+  pub own : claims.main ≡ true
+  pub may : event

@@ -127,6 +127,11 @@ abbrev pub ReadsZeros : RangeView → List Entry → ℕ → Answer → Type 0
 ReadsZeros opening history block (LentOut lent) = Unit {0}
 ReadsZeros opening history block (Zeros pages) = (k : ℕ) (p : Page) → slice_get pages.items k ≡ Some p → p.bytes ≡ content_at opening history (block - opening.first + k)
 
+-- what was lent are blocks of the range
+abbrev pub AnswerLies : RangeView → Answer → Type 0
+AnswerLies r (LentOut lent) = LiesAt r lent.block (length lent.parts.items)
+AnswerLies r (Zeros pages) = Unit {0}
+
 -- Blocks were lent with the pages, or the pages have the zeros that the blocks read as
 pub record LentDirectly (change : LendPages) (opening : RangeView) (history : List Entry) (before after : RangeView) (claims left : ClaimsView) (answer : Answer) (entry : Entry) : Type 0 where
   pub free : lend_direct_refusal before change.seen change.op change.block (length (pages_in change)) ≡ None
@@ -136,6 +141,7 @@ pub record LentDirectly (change : LendPages) (opening : RangeView) (history : Li
   pub claims_are : ClaimsAnswer claims left change.by change.op (first_kind (cells_from before change.block)) answer
   pub entry_is : entry ≡ lend_entry claims change (lend_outcome before.tickets (length (pages_in change)) answer)
   pub reads : ReadsZeros opening history change.block answer
+  pub lies : AnswerLies opening answer
 
 -- Nothing was lent, and the pages came back
 pub record NotLentDirectly (change : LendPages) (before after : RangeView) (claims left : ClaimsView) (refused : DirectRefused) (entry : Entry) : Type 0 where

@@ -94,8 +94,8 @@ filled r back done = with_each (filled_of done.failed back.parts.items) r back.b
 abbrev pub cold_entry : ClaimsView → LendCold → Outcome → Entry
 cold_entry claims change outcome = record { caller = claims.caller; event = LendRead change.block change.blocks; outcome = outcome }
 
--- The turn lent blocks for a read
-pub record LentCold (change later : LendCold) (before after : RangeView) (claims left : ClaimsView) (lent : Lent) (entry : Entry) : Type 0 where
+-- The turn lent blocks for a read, and they are blocks of the range as it was opened
+pub record LentCold (opening : RangeView) (change later : LendCold) (before after : RangeView) (claims left : ClaimsView) (lent : Lent) (entry : Entry) : Type 0 where
   pub change_is : later ≡ change
   pub made : lend_read_refusal before change.block ≡ None
   pub run : IsColdRun before.cells (change.block - before.first) (fill_length before change.block change.blocks)
@@ -104,6 +104,7 @@ pub record LentCold (change later : LendCold) (before after : RangeView) (claims
   pub ready : CanTransfer lent.parts.items
   pub claims_are : TakesHold claims left lent Reading (first_kind (cells_from before change.block))
   pub entry_is : entry ≡ cold_entry claims change (Lending before.tickets (fill_length before change.block change.blocks))
+  pub lies : LiesAt opening lent.block (length lent.parts.items)
 
 -- The turn was refused, and nothing changed
 pub record RefusedCold (change later : LendCold) (before after : RangeView) (claims left : ClaimsView) (fault : EventFault) (entry : Entry) : Type 0 where

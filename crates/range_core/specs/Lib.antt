@@ -5,6 +5,7 @@ pub mod BlockTruth
 pub mod ByteRuns
 pub mod Cells
 pub mod ClaimsView
+pub mod Closing
 pub mod Conversions
 pub mod DaxPools
 pub mod DaxPuts
@@ -20,6 +21,7 @@ pub mod Events
 pub mod Fetches
 pub mod Fills
 pub mod Happened
+pub mod Finding
 pub mod Kinds
 pub mod Lasting
 pub mod Lends
@@ -50,6 +52,7 @@ pub mod Stakes
 pub mod StampedChanges
 pub mod Stamps
 pub mod Stores
+pub mod Surveys
 pub mod Through
 pub mod Tried
 pub mod TriedHistories

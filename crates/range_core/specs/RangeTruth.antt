@@ -13,7 +13,7 @@ use Rattle.range_core.specs.EntryStamps.{stamps_in}
 use Rattle.range_core.specs.Happened.{HasHappened}
 use Rattle.range_core.specs.Kinds.{is_delalloc, is_unwritten}
 use Rattle.range_core.specs.Lookups.{GivesPresent}
-use Rattle.range_core.specs.RangeView.{RangeView}
+use Rattle.range_core.specs.RangeView.{RangeView, part_in}
 use Rattle.range_core.specs.Space.{ClaimsSpace}
 use Rattle.range_core.specs.Stakes.{RangeStake, IsApart}
 use Rattle.range_core.specs.declared.cell.Cell.{Cell}
@@ -22,13 +22,13 @@ use Rattle.range_core.specs.declared.lending.Away.{Away}
 use Rattle.range_core.specs.declared.lending.Lender.{Lender}
 use Rattle.range_core.specs.declared.lending.Lender.TheVariants.{Reading, Writeback, Direct}
 
--- a range is the run of blocks as which it was opened
+-- a range is the run of blocks as which it was opened, and its seat stays at its pool, with its share
 pub record IsSameRun (opening now : RangeView) : Type 0 where
   pub geometry : now.geometry ≡ opening.geometry
   pub mode : now.mode ≡ opening.mode
   pub first : now.first ≡ opening.first
   pub blocks : length now.cells ≡ length opening.cells
-  pub pool : now.seat.cell ≡ opening.seat.cell
+  pub pool : part_in now.seat ≡ part_in opening.seat
 
 -- the content of the i-th block: the replay of the history from its content at the opening
 abbrev pub content_at : RangeView → List Entry → ℕ → Content

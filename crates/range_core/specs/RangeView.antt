@@ -1,4 +1,5 @@
 use Rattle.std.specs.Prelude.{ℕ, ◌+◌, ◌-◌, ◌<◌, ◌≤◌, List, [], length, drop, All}
+use Rattle.atomic_table.specs.Seated.{TableId}
 use Rattle.iob_base.specs.DeviceBlock.{DeviceBlock}
 use Rattle.iob_base.specs.Layout.{Layout}
 use Rattle.iob_base.specs.declared.stamp.Mode.{Mode}
@@ -25,6 +26,10 @@ pub record RangeView : Type 0 where
   pub tickets : ℕ
   pub seat : SeatView PoolEntry
   pub space : SpaceClaims
+
+-- which pool a seat is at, and its share of it
+abbrev pub part_in : SeatView PoolEntry → TableId × ℕ
+part_in seat = (seat.cell, seat.share)
 
 abbrev pub range_view : Layout → Mode → ℕ → List Cell → List (ℕ × Stamp) → ℕ → ℕ → ℕ → SeatView PoolEntry → SpaceClaims → RangeView
 range_view geometry mode first cells log cookie errors tickets seat space =

@@ -25,6 +25,7 @@ use Rattle.range_core.specs.declared.fault.EventFault.TheVariants as fault
 use Rattle.range_core.specs.declared.range.reserving.ReserveRun.{ReserveRun}
 use Rattle.range_core.specs.declared.range.reserving.UnreserveRun.{UnreserveRun}
 use Rattle.range_core.specs.declared.sample.Sample.{Sample}
+use Rattle.range_core.specs.Looks.{SampleLies}
 
 -- Space may be promised to the first n blocks of a sample: they are a hole, and blocks of a cached range
 pub record AsksHoles (r : RangeView) (seen : Sample) (n : ℕ) : Type 0 where
@@ -83,12 +84,13 @@ pub record CanReserve {R : Type 0} (run : ReserveRun R) (opening : RangeView) (s
   pub pool : opening.seat.cell ≡ (pool_cell run.space.now).cell
 
 -- The turn promised space to holes, or was refused
-pub record ReserveTurned {R : Type 0} (run later : ReserveRun R) (before after : RangeView) (claims left : ClaimsView) (answer : Result Sample EventFault) (entry : Entry) : Type 0 where
+pub record ReserveTurned {R : Type 0} (opening : RangeView) (run later : ReserveRun R) (before after : RangeView) (claims left : ClaimsView) (answer : Result Sample EventFault) (entry : Entry) : Type 0 where
   pub change : later ≡ run
   pub claims_are : left ≡ claims
   pub ok : IfOk answer (Reserves (pool_cell run.space.now).opening before run.seen run.blocks after)
   pub err : IfErr answer (RefusesReserve (pool_cell run.space.now).opening before run.seen run.blocks after)
   pub entry_is : entry ≡ record { caller = claims.caller; event = Reserve run.seen run.blocks; outcome = reserve_outcome answer }
+  pub lies : IfOk answer (SampleLies opening)
 
 -- promises may be taken back from a run of the range, by a turn at its pool
 pub record CanUnreserve {R : Type 0} (run : UnreserveRun R) (opening : RangeView) : Type 0 where

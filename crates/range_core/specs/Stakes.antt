@@ -1,5 +1,5 @@
 -- What the seats at a range claim and have made.
-use Rattle.std.specs.Prelude.{◌≡◌, ℕ, ◌+◌, ◌<◌, ◌≤◌, ◌^◌, Bool, false, ◌&&◌, ◌==◌, nat_le, Option, Some, None, List, length}
+use Rattle.std.specs.Prelude.{◌≡◌, ℕ, ◌+◌, ◌<◌, ◌≤◌, ◌^◌, Bool, false, ◌&&◌, ◌==◌, nat_le, Option, Some, None, List, length, if◌then◌else◌}
 use Rattle.turn_cell.specs.Stakes.{Stake, total}
 use Rattle.range_core.specs.ClaimsView.{ClaimsView}
 use Rattle.range_core.specs.EntryCounts.{made_as, one_where}
@@ -45,7 +45,12 @@ mains caller s = one_where (is_main_of caller s.0)
 abbrev pub workers : ℕ → RangeStake → ℕ
 workers caller s = one_where (works_as caller s.0)
 
--- a caller number is spare at one seat, or is that of one caller's own seat, or neither; and while it is spare, no seat works under it and no entry was made under it
+-- how many entries under a number were made by a seat that is not that caller's own
+abbrev pub strays : ℕ → RangeStake → ℕ
+strays caller s = if is_main_of caller s.0 then 0 else total (made_as caller) s.1
+
+-- a caller number is spare at one seat, or is that of one caller's own seat, or neither; while it is spare, no seat works under it and no entry was made under it; and while it is that of a caller's own seat, no other seat made an entry under it
 pub record IsApart (caller : ℕ) (history : List Entry) (stakes : List RangeStake) : Type 0 where
   pub one : total (spares caller) stakes + total (mains caller) stakes ≤ 1
   pub unused : 0 < total (spares caller) stakes → total (workers caller) stakes + total (made_as caller) history ≡ 0
+  pub own : 0 < total (mains caller) stakes → total (strays caller) stakes ≡ 0

@@ -114,8 +114,8 @@ written_count back done = if done.failed then 0 else length back.parts.items
 abbrev pub dirty_entry : ClaimsView → LendDirty → Outcome → Entry
 dirty_entry claims change outcome = record { caller = claims.caller; event = LendWriteback change.block change.blocks; outcome = outcome }
 
--- The turn lent blocks for a write
-pub record LentDirty (change later : LendDirty) (before after : RangeView) (claims left : ClaimsView) (lent : Lent) (entry : Entry) : Type 0 where
+-- The turn lent blocks for a write, and they are blocks of the range as it was opened
+pub record LentDirty (opening : RangeView) (change later : LendDirty) (before after : RangeView) (claims left : ClaimsView) (lent : Lent) (entry : Entry) : Type 0 where
   pub change_is : later ≡ change
   pub made : lend_writeback_refusal before change.block ≡ None
   pub run : IsDirtyRun before.cells (change.block - before.first) (write_length before change.block change.blocks)
@@ -124,6 +124,7 @@ pub record LentDirty (change later : LendDirty) (before after : RangeView) (clai
   pub ready : CanTransfer lent.parts.items
   pub claims_are : TakesHold claims left lent Writeback (first_kind (cells_from before change.block))
   pub entry_is : entry ≡ dirty_entry claims change (Lending before.tickets (write_length before change.block change.blocks))
+  pub lies : LiesAt opening lent.block (length lent.parts.items)
 
 -- The turn was refused, and nothing changed
 pub record RefusedDirty (change later : LendDirty) (before after : RangeView) (claims left : ClaimsView) (fault : EventFault) (entry : Entry) : Type 0 where

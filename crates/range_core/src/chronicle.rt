@@ -56,3 +56,20 @@ impl Cut<Range> for SameCaller {
         claims.same_caller()
     }
 }
+
+/// Cuts a seat off that carries the loan of this one: it works under the same caller number and has the claim, and the
+/// first seat has none any more. Once the loan comes back, a join brings both together as they were.
+#[derive(Clone, Copy)]
+pub struct WithLoan {}
+
+impl Cut<Range> for WithLoan {
+    ghost use Rattle.range_core.specs.ClaimsView.{loan_claims, released};
+
+    ghost may_cut = { λ _ _. Unit {0} };
+
+    ghost cuts = { λ _ claims _ left right. (left ≡ released claims) × (right ≡ loan_claims claims) };
+
+    fn cut(&mut self, claims: &mut Claims) -> Claims {
+        claims.with_loan()
+    }
+}

@@ -25,7 +25,7 @@ impl Model for Claims {
 }
 
 impl Claims {
-    ghost use Rattle.range_core.specs.ClaimsView.{MayMerge, first_claims, holding, merged_claims, next_claims, released, rest_claims, ticket_claims};
+    ghost use Rattle.range_core.specs.ClaimsView.{MayMerge, first_claims, holding, loan_claims, merged_claims, next_claims, released, rest_claims, ticket_claims};
 
     /// The claims of the first seat: the caller number 0, and all others spare.
     pub fn first() -> Claims
@@ -79,6 +79,20 @@ impl Claims {
             spare: 0,
             main: false,
             held: None,
+        }
+    }
+
+    /// The claims of a seat that carries the loan of these: the same caller, no spare numbers, and the claim, which these give
+    /// up.
+    pub fn with_loan(&mut self) -> Claims
+        ensures kept { self.new ≡ released self.old }
+        ensures given { result ≡ loan_claims self.old }
+    {
+        Claims {
+            caller: self.caller,
+            spare: 0,
+            main: false,
+            held: self.held.take(),
         }
     }
 

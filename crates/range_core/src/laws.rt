@@ -1,5 +1,6 @@
 //! What the range truth says of loans, and the definitions tried on histories that can be checked by hand. Each law is a
 //! function that does nothing.
+ghost use Rattle.range_core.specs.Closing.{ClosedIsHome, ClosedKeepsShare, LoanComesHome, OwnEntriesAlone};
 ghost use Rattle.range_core.specs.Conversions.{OnlyWritesMap};
 ghost use Rattle.range_core.specs.Lasting.{MappedWasWritten, SectorsLast};
 ghost use Rattle.range_core.specs.Loans.{LoanIsClaimed, OthersStayClaimed, ReturnFreesClaim};
@@ -23,6 +24,24 @@ pub fn return_frees_claim()
 /// Blocks that a claim does not name are claimed as before when it is made or given up.
 pub fn others_stay_claimed()
     ensures { OthersStayClaimed }
+{}
+
+/// The history has as many entries under the number of a caller's own seat as that seat made, whatever others claim: seats
+/// that carry its loans make none.
+pub fn own_entries_alone()
+    ensures { OwnEntriesAlone }
+{}
+
+/// A loan that is split off and joined again leaves the claims of a seat as they were.
+pub fn loan_comes_home()
+    ensures { LoanComesHome }
+{}
+
+/// Where a cell is closed and its one seat claims no blocks, each block is at home, which is what `Range::end` asks. The
+/// range's seat at the pool then has the share that it had when the range was opened.
+pub fn closed_is_home()
+    ensures home { ClosedIsHome }
+    ensures share { ClosedKeepsShare }
 {}
 
 /// An event that was refused leaves the contents, the kinds, the dirty bits, the journals and the counts as they were.

@@ -44,7 +44,7 @@ mod stamps;
 mod stops;
 
 pub use cell::Cell;
-pub use chronicle::{NextCaller, SameCaller};
+pub use chronicle::{NextCaller, SameCaller, WithLoan};
 pub use claims::Claims;
 pub use direct_answer::{Direct, DirectRefused};
 pub use end::RangeEnd;
@@ -52,17 +52,18 @@ pub use entry::{Entry, Event, Outcome};
 pub use fault::EventFault;
 pub use io_model::{BlockEnd, Extent, Kind};
 pub use laws::{
-    failed_read_misses, failed_write_lands_a_prefix, filled_is_warm, history_refuses,
-    lawful_can_happen, loan_is_claimed, mapped_was_written, only_stamps_change,
-    only_what_hinders_refuses, only_writes_map, others_stay_claimed, put_leaves_zeros_around,
-    refusals_have_an_order, refused_is_quiet, return_frees_claim, sectors_last,
-    store_leaves_zeros_around, store_stamps_each_block, unlawful_cannot_happen, wipe_leaves_a_hole,
-    writeback_maps,
+    closed_is_home, failed_read_misses, failed_write_lands_a_prefix, filled_is_warm,
+    history_refuses, lawful_can_happen, loan_comes_home, loan_is_claimed, mapped_was_written,
+    only_stamps_change, only_what_hinders_refuses, only_writes_map, others_stay_claimed,
+    own_entries_alone, put_leaves_zeros_around, refusals_have_an_order, refused_is_quiet,
+    return_frees_claim, sectors_last, store_leaves_zeros_around, store_stamps_each_block,
+    unlawful_cannot_happen, wipe_leaves_a_hole, writeback_maps,
 };
 pub use lending::{Away, Held, Lender, Lent, Pages};
 pub use range::{
     AttachRun, DaxGetBytes, DaxPutBytes, DaxZeroBytes, DropPages, EndDirect, EndWriteback,
-    FetchBytes, FillPages, LendCold, LendDirty, LendPages, Look, PreallocateRun, Range, ReadNow,
-    ReserveRun, StoreBytes, StoreZeroBytes, UnreserveRun, WipeRun,
+    FetchBytes, FillPages, FindDue, Found, LendCold, LendDirty, LendPages, Look, PreallocateRun,
+    Range, ReadNow, ReserveRun, StoreBytes, StoreZeroBytes, Survey, SurveyRun, UnreserveRun,
+    WipeRun,
 };
 pub use sample::Sample;

@@ -177,11 +177,12 @@ pub struct DaxGetBytes<'a, F> {
 }
 
 impl<'a, F: FnMut(u32) -> Done> Change<Range> for DaxGetBytes<'a, F> {
+    ghost use Rattle.range_core.specs.ClaimsView.{MayTurn};
     ghost use Rattle.range_core.specs.DaxReads.{GotDax, MayGetDax};
 
     type Out = Result<(), EventFault>;
 
-    ghost ready = { λ change opening history _. MayGetDax F.pre change opening history };
+    ghost ready = { λ change opening history claims. MayTurn claims (MayGetDax F.pre change opening history) };
 
     ghost does = { λ change opening history before claims later after left out entry. GotDax F.step change opening history before claims later after left out entry };
 

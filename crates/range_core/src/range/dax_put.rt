@@ -254,11 +254,12 @@ pub struct DaxPutBytes<'a, R, F> {
 }
 
 impl<'a, R: Wait, F: FnMut(u32) -> Done> Change<Range> for DaxPutBytes<'a, R, F> {
+    ghost use Rattle.range_core.specs.ClaimsView.{MayTurn};
     ghost use Rattle.range_core.specs.DaxPuts.{MayPutDax, PutDax};
 
     type Out = Result<(), EventFault>;
 
-    ghost ready = { λ change opening history _. MayPutDax F.pre change opening history };
+    ghost ready = { λ change opening history claims. MayTurn claims (MayPutDax F.pre change opening history) };
 
     ghost does = { λ change _ _ before claims later after left out entry. PutDax F.step change before claims later after left out entry };
 

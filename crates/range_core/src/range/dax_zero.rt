@@ -157,11 +157,12 @@ pub struct DaxZeroBytes<F> {
 }
 
 impl<F: FnMut(u32) -> Done> Change<Range> for DaxZeroBytes<F> {
+    ghost use Rattle.range_core.specs.ClaimsView.{MayTurn};
     ghost use Rattle.range_core.specs.DaxZeros.{MayZeroDax, ZeroedDax};
 
     type Out = Result<(), EventFault>;
 
-    ghost ready = { λ change opening history _. MayZeroDax F.pre change opening history };
+    ghost ready = { λ change opening history claims. MayTurn claims (MayZeroDax F.pre change opening history) };
 
     ghost does = { λ change _ _ before claims later after left out entry. ZeroedDax F.step change before claims later after left out entry };
 

@@ -291,11 +291,12 @@ pub struct LendPages {
 }
 
 impl Change<Range> for LendPages {
+    ghost use Rattle.range_core.specs.ClaimsView.{MayTurn};
     ghost use Rattle.range_core.specs.DirectLends.{ReadyToLend, TurnedToLend};
 
     type Out = Result<Direct, DirectRefused>;
 
-    ghost ready = { λ change opening history claims. ReadyToLend change opening history claims };
+    ghost ready = { λ change opening history claims. MayTurn claims (ReadyToLend change opening history claims) };
 
     ghost does = { λ change opening history before claims later after left out entry. TurnedToLend change later opening history before after claims left out entry };
 
@@ -319,11 +320,12 @@ pub struct EndDirect {
 }
 
 impl Change<Range> for EndDirect {
+    ghost use Rattle.range_core.specs.ClaimsView.{MayTurn};
     ghost use Rattle.range_core.specs.DirectBacks.{ReadyToReturn, ReturnedDirectly};
 
     type Out = Pages;
 
-    ghost ready = { λ change opening _ claims. ReadyToReturn change opening claims };
+    ghost ready = { λ change opening _ claims. MayTurn claims (ReadyToReturn change opening claims) };
 
     ghost does = { λ change opening history before claims later after left out entry. ReturnedDirectly change later opening history before after claims left out entry };
 

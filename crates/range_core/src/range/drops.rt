@@ -71,12 +71,13 @@ pub struct DropPages {
 }
 
 impl Change<Range> for DropPages {
+    ghost use Rattle.range_core.specs.ClaimsView.{MayTurn};
     ghost use Rattle.range_core.specs.Drops.{Dropped};
     ghost use Rattle.range_core.specs.RangeView.{LiesAt};
 
     type Out = u64;
 
-    ghost ready = { λ change opening _ _. LiesAt opening change.block change.blocks };
+    ghost ready = { λ change opening _ claims. MayTurn claims (LiesAt opening change.block change.blocks) };
 
     ghost does = { λ change _ _ before claims later after left out entry. Dropped change later before after claims left out entry };
 

@@ -134,11 +134,12 @@ pub struct FetchBytes<'a> {
 }
 
 impl<'a> Change<Range> for FetchBytes<'a> {
+    ghost use Rattle.range_core.specs.ClaimsView.{MayTurn};
     ghost use Rattle.range_core.specs.Fetches.{CanFetch, Fetched};
 
     type Out = Result<(), EventFault>;
 
-    ghost ready = { λ change opening _ _. CanFetch opening change.from change.to change.iov.now };
+    ghost ready = { λ change opening _ claims. MayTurn claims (CanFetch opening change.from change.to change.iov.now) };
 
     ghost does = { λ change opening history before claims later after left out entry. Fetched change later opening history before after claims left out entry };
 

@@ -33,7 +33,7 @@ impl Range {
     }
 }
 
-/// The turn of `Range::sample`. It answers the sample.
+/// The turn of `Range::sample`. It answers the sample, which has at least one block.
 #[derive(Clone, Copy)]
 pub struct Look {
     pub block: u64,
@@ -41,14 +41,14 @@ pub struct Look {
 }
 
 impl Change<Range> for Look {
-    ghost use Rattle.range_core.specs.Looks.{Looked};
-    ghost use Rattle.range_core.specs.RangeView.{LiesAt};
+    ghost use Rattle.range_core.specs.ClaimsView.{MayTurn};
+    ghost use Rattle.range_core.specs.Looks.{Looked, MayLook};
 
     type Out = Sample;
 
-    ghost ready = { λ change opening _ _. LiesAt opening change.block 1 };
+    ghost ready = { λ change opening _ claims. MayTurn claims (MayLook opening change.block change.most) };
 
-    ghost does = { λ change _ _ before claims later after left out entry. Looked change later before after claims left out entry };
+    ghost does = { λ change opening _ before claims later after left out entry. Looked opening change later before after claims left out entry };
 
     fn apply(&mut self, value: &mut Range, _claims: &mut Claims) -> Sample {
         value.sample(self.block, self.most)

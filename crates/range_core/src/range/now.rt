@@ -250,13 +250,14 @@ pub struct ReadNow<'a, F> {
 }
 
 impl<'a, F: FnMut(u32) -> Done> Change<Range> for ReadNow<'a, F> {
+    ghost use Rattle.range_core.specs.ClaimsView.{MayTurn};
     ghost use Rattle.std.specs.Prelude.{ℕ, ◌<◌};
     ghost use Rattle.range_core.specs.DirectNow.{CanReadNow};
     ghost use Rattle.range_core.specs.ReadsNow.{ReadsNow};
 
     type Out = Result<u64, EventFault>;
 
-    ghost ready = { λ change opening _ _. ((m : ℕ) → 0 < m → F.pre change.judge m) × CanReadNow opening change.block change.pages.now.items };
+    ghost ready = { λ change opening _ claims. MayTurn claims (((m : ℕ) → 0 < m → F.pre change.judge m) × CanReadNow opening change.block change.pages.now.items) };
 
     ghost does = { λ change opening history before claims later after left out entry. ReadsNow F.step change opening history before claims later after left out entry };
 

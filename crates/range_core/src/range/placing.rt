@@ -115,11 +115,12 @@ pub struct AttachRun<'a, R> {
 }
 
 impl<'a, R: Wait> Change<Range> for AttachRun<'a, R> {
+    ghost use Rattle.range_core.specs.ClaimsView.{MayTurn};
     ghost use Rattle.range_core.specs.Attaching.{AttachTurned, CanAttach};
 
     type Out = Result<u64, EventFault>;
 
-    ghost ready = { λ change opening _ _. CanAttach change opening };
+    ghost ready = { λ change opening _ claims. MayTurn claims (CanAttach change opening) };
 
     ghost does = { λ change _ _ before claims later after left answer entry. AttachTurned change later before after claims left answer entry };
 
@@ -140,11 +141,12 @@ pub struct PreallocateRun<'a, R> {
 }
 
 impl<'a, R: Wait> Change<Range> for PreallocateRun<'a, R> {
+    ghost use Rattle.range_core.specs.ClaimsView.{MayTurn};
     ghost use Rattle.range_core.specs.Attaching.{CanPreallocate, PreallocateTurned};
 
     type Out = Result<u64, EventFault>;
 
-    ghost ready = { λ change opening _ _. CanPreallocate change opening };
+    ghost ready = { λ change opening _ claims. MayTurn claims (CanPreallocate change opening) };
 
     ghost does = { λ change _ _ before claims later after left answer entry. PreallocateTurned change later before after claims left answer entry };
 

@@ -196,14 +196,15 @@ pub struct LendCold {
 }
 
 impl Change<Range> for LendCold {
+    ghost use Rattle.range_core.specs.ClaimsView.{MayTurn};
     ghost use Rattle.std.specs.Prelude.{MatchResult};
     ghost use Rattle.range_core.specs.Fills.{LentCold, MayFill, RefusedCold};
 
     type Out = Result<Lent, EventFault>;
 
-    ghost ready = { λ change opening _ claims. MayFill opening claims change.block change.blocks };
+    ghost ready = { λ change opening _ claims. MayTurn claims (MayFill opening claims change.block change.blocks) };
 
-    ghost does = { λ change _ _ before claims later after left out entry. MatchResult out (λ lent. LentCold change later before after claims left lent entry) (λ fault. RefusedCold change later before after claims left fault entry) };
+    ghost does = { λ change opening _ before claims later after left out entry. MatchResult out (λ lent. LentCold opening change later before after claims left lent entry) (λ fault. RefusedCold change later before after claims left fault entry) };
 
     fn apply(&mut self, value: &mut Range, claims: &mut Claims) -> Result<Lent, EventFault> {
         value.lend_read(claims, self.block, self.blocks)
@@ -219,6 +220,7 @@ pub struct FillPages {
 }
 
 impl Change<Range> for FillPages {
+    ghost use Rattle.range_core.specs.ClaimsView.{MayTurn};
     ghost use Rattle.range_core.specs.Fills.{Filled};
     ghost use Rattle.iob_base.specs.declared.stamp.Op.TheVariants.{Read};
     ghost use Rattle.range_core.specs.Returning.{BringsBack};
@@ -226,7 +228,7 @@ impl Change<Range> for FillPages {
 
     type Out = ();
 
-    ghost ready = { λ change opening _ claims. BringsBack opening claims Reading Read change.back change.done };
+    ghost ready = { λ change opening _ claims. MayTurn claims (BringsBack opening claims Reading Read change.back change.done) };
 
     ghost does = { λ change _ _ before claims later after left _ entry. Filled change later before after claims left entry };
 

@@ -148,13 +148,14 @@ pub struct ReserveRun<'a, R> {
 }
 
 impl<'a, R: Wait> Change<Range> for ReserveRun<'a, R> {
+    ghost use Rattle.range_core.specs.ClaimsView.{MayTurn};
     ghost use Rattle.range_core.specs.Reserving.{CanReserve, ReserveTurned};
 
     type Out = Result<Sample, EventFault>;
 
-    ghost ready = { λ change opening seen _. CanReserve change opening seen };
+    ghost ready = { λ change opening seen claims. MayTurn claims (CanReserve change opening seen) };
 
-    ghost does = { λ change _ _ before claims later after left answer entry. ReserveTurned change later before after claims left answer entry };
+    ghost does = { λ change opening _ before claims later after left answer entry. ReserveTurned opening change later before after claims left answer entry };
 
     fn apply(&mut self, value: &mut Range, _claims: &mut Claims) -> Result<Sample, EventFault> {
         value.reserve(self.rt, self.space, self.seen, self.blocks)
@@ -171,11 +172,12 @@ pub struct UnreserveRun<'a, R> {
 }
 
 impl<'a, R: Wait> Change<Range> for UnreserveRun<'a, R> {
+    ghost use Rattle.range_core.specs.ClaimsView.{MayTurn};
     ghost use Rattle.range_core.specs.Reserving.{CanUnreserve, UnreserveTurned};
 
     type Out = u64;
 
-    ghost ready = { λ change opening _ _. CanUnreserve change opening };
+    ghost ready = { λ change opening _ claims. MayTurn claims (CanUnreserve change opening) };
 
     ghost does = { λ change _ _ before claims later after left answer entry. UnreserveTurned change later before after claims left answer entry };
 

@@ -186,11 +186,12 @@ pub struct StoreBytes<'a> {
 }
 
 impl<'a> Change<Range> for StoreBytes<'a> {
+    ghost use Rattle.range_core.specs.ClaimsView.{MayTurn};
     ghost use Rattle.range_core.specs.Stores.{MayStore, Stored};
 
     type Out = Result<(), EventFault>;
 
-    ghost ready = { λ change opening seen _. MayStore change opening seen };
+    ghost ready = { λ change opening seen claims. MayTurn claims (MayStore change opening seen) };
 
     ghost does = { λ change _ _ before claims later after left out entry. Stored change later before after claims left out entry };
 

@@ -122,11 +122,12 @@ pub struct WipeRun<'a, R> {
 }
 
 impl<'a, R: Wait> Change<Range> for WipeRun<'a, R> {
+    ghost use Rattle.range_core.specs.ClaimsView.{MayTurn};
     ghost use Rattle.range_core.specs.Wiping.{CanWipe, WipeTurned};
 
     type Out = Result<u64, EventFault>;
 
-    ghost ready = { λ change opening _ _. CanWipe change opening };
+    ghost ready = { λ change opening _ claims. MayTurn claims (CanWipe change opening) };
 
     ghost does = { λ change _ _ before claims later after left answer entry. WipeTurned change later before after claims left answer entry };
 

@@ -250,14 +250,15 @@ pub struct LendDirty {
 }
 
 impl Change<Range> for LendDirty {
+    ghost use Rattle.range_core.specs.ClaimsView.{MayTurn};
     ghost use Rattle.std.specs.Prelude.{MatchResult};
     ghost use Rattle.range_core.specs.Writebacks.{LentDirty, MayWrite, RefusedDirty};
 
     type Out = Result<Lent, EventFault>;
 
-    ghost ready = { λ change opening _ claims. MayWrite opening claims change.block change.blocks };
+    ghost ready = { λ change opening _ claims. MayTurn claims (MayWrite opening claims change.block change.blocks) };
 
-    ghost does = { λ change _ _ before claims later after left out entry. MatchResult out (λ lent. LentDirty change later before after claims left lent entry) (λ fault. RefusedDirty change later before after claims left fault entry) };
+    ghost does = { λ change opening _ before claims later after left out entry. MatchResult out (λ lent. LentDirty opening change later before after claims left lent entry) (λ fault. RefusedDirty change later before after claims left fault entry) };
 
     fn apply(&mut self, value: &mut Range, claims: &mut Claims) -> Result<Lent, EventFault> {
         value.lend_writeback(claims, self.block, self.blocks)
@@ -274,6 +275,7 @@ pub struct EndWriteback {
 }
 
 impl Change<Range> for EndWriteback {
+    ghost use Rattle.range_core.specs.ClaimsView.{MayTurn};
     ghost use Rattle.iob_base.specs.declared.stamp.Op.TheVariants.{Write};
     ghost use Rattle.range_core.specs.Returning.{BringsBack};
     ghost use Rattle.range_core.specs.Writebacks.{EndedWriteback};
@@ -281,7 +283,7 @@ impl Change<Range> for EndWriteback {
 
     type Out = u64;
 
-    ghost ready = { λ change opening _ claims. BringsBack opening claims Writeback Write change.back change.done };
+    ghost ready = { λ change opening _ claims. MayTurn claims (BringsBack opening claims Writeback Write change.back change.done) };
 
     ghost does = { λ change _ _ before claims later after left out entry. EndedWriteback change later before after claims left out entry };
 

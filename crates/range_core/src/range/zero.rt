@@ -124,11 +124,12 @@ pub struct StoreZeroBytes {
 }
 
 impl Change<Range> for StoreZeroBytes {
+    ghost use Rattle.range_core.specs.ClaimsView.{MayTurn};
     ghost use Rattle.range_core.specs.ZeroStores.{MayStoreZeros, StoredZeros};
 
     type Out = Result<(), EventFault>;
 
-    ghost ready = { λ change opening seen _. MayStoreZeros change opening seen };
+    ghost ready = { λ change opening seen claims. MayTurn claims (MayStoreZeros change opening seen) };
 
     ghost does = { λ change _ _ before claims later after left out entry. StoredZeros change later before after claims left out entry };
 

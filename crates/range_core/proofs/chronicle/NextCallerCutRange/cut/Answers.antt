@@ -9,4 +9,4 @@ returns-clause-truth c opening value history stakes number made s =
     let kept = sym c.next_caller.ensures.kept in
     let given = sym c.next_caller.ensures.given in
     let T : ClaimsView × ClaimsView → Type 0 = λ p. RangeTruth opening value history (set stakes number (Some p.0, made) ++ (Some p.1, []) ∷ []) in
-    subst T (λ i. (kept i, given i)) (caller_truth stakes number _ made s.here opening value history c.requires c.next_caller.ensures.few s.holds)
+    subst T (λ i. (kept i, given i)) (caller_truth stakes number _ made s.here opening value history s.once c.requires c.next_caller.ensures.few s.holds)

@@ -4,12 +4,13 @@ use Rattle.range_core.specs.declared.entry.Entry.{Entry}
 use Rattle.range_core.specs.declared.fault.EventFault.{EventFault}
 use Rattle.range_core.proofs.DaxReadTruth.{can_get_dax, dax_get_gives, dax_get_keeps}
 use Rattle.range_core.proofs.range.dax.DaxGetBytesChangeRange.apply.Goals as goal
+use Rattle.range_core.proofs.StakeTruth.{works}
 
 pub get_through-requires-clause-can : goal.get_through-requires-clause-can
 get_through-requires-clause-can g c =
     let s = c.requires in
     let x = c.args.self.now in
-    can_get_dax s.opening c.args.value.now s.history s.stakes x.seen x.from x.to s.stands.holds s.is_ready.bytes s.seen x.iov.now s.begins s.is_ready.given s.is_ready.room
+    can_get_dax s.opening c.args.value.now s.history s.stakes x.seen x.from x.to s.stands.holds s.is_ready.may.bytes s.seen x.iov.now s.begins s.is_ready.may.given s.is_ready.may.room
 
 pub returns : goal.returns
 returns g c s =
@@ -19,7 +20,7 @@ returns g c s =
     let entry : Entry = dax_get_entry claims x.by x.seen x.from x.to answer in
     let e = c.get_through.ensures in
     let t = s.stands.holds in
-    let bytes = s.is_ready.bytes in
+    let bytes = s.is_ready.may.bytes in
     record {
       entry = entry;
       done = record {
@@ -39,5 +40,5 @@ returns g c s =
         nothing = e.nothing;
         entry_is = refl;
       };
-      holds = dax_get_keeps s.opening c.args.value.now s.history s.stakes x.seen x.from x.to t bytes s.number claims s.made x.by s.stands.here c.get_through.new.self answer e.unchanged e.state;
+      holds = dax_get_keeps s.opening c.args.value.now s.history s.stakes x.seen x.from x.to t bytes s.number claims s.made x.by (works s.stands.here s.is_ready.own) c.get_through.new.self answer e.unchanged e.state;
     }

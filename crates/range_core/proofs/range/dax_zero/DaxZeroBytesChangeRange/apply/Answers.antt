@@ -4,12 +4,13 @@ use Rattle.range_core.specs.declared.entry.Entry.{Entry}
 use Rattle.range_core.specs.declared.fault.EventFault.{EventFault}
 use Rattle.range_core.proofs.DaxZeroTruth.{can_zero_dax, dax_zero_keeps}
 use Rattle.range_core.proofs.range.dax_zero.DaxZeroBytesChangeRange.apply.Goals as goal
+use Rattle.range_core.proofs.StakeTruth.{works}
 
 pub zero_through-requires-clause-can : goal.zero_through-requires-clause-can
 zero_through-requires-clause-can g c =
     let s = c.requires in
     let x = c.args.self.now in
-    can_zero_dax s.opening c.args.value.now s.history s.stakes x.seen x.from x.to s.stands.holds s.is_ready.bytes s.seen s.begins s.is_ready.given
+    can_zero_dax s.opening c.args.value.now s.history s.stakes x.seen x.from x.to s.stands.holds s.is_ready.may.bytes s.seen s.begins s.is_ready.may.given
 
 pub returns : goal.returns
 returns g c s =
@@ -33,5 +34,5 @@ returns g c s =
         unchanged = e.unchanged;
         entry_is = refl;
       };
-      holds = dax_zero_keeps s.opening c.args.value.now s.history s.stakes x.seen x.from x.to s.stands.holds s.is_ready.bytes s.number claims s.made x.by s.stands.here c.zero_through.new.self e.met answer e.unchanged e.state;
+      holds = dax_zero_keeps s.opening c.args.value.now s.history s.stakes x.seen x.from x.to s.stands.holds s.is_ready.may.bytes s.number claims s.made x.by (works s.stands.here s.is_ready.own) c.zero_through.new.self e.met answer e.unchanged e.state;
     }

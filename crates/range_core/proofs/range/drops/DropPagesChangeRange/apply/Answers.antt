@@ -13,6 +13,7 @@ use Rattle.range_core.proofs.AfterRun.{in_run-false, in_run-true}
 use Rattle.range_core.proofs.DropLemmas.{dropped-kind, dropped-pending, dropped-state, dropped-true, dropped-uncached}
 use Rattle.range_core.proofs.OnRunLemmas.{All-on_each, IsInRun, IsOutOfRun, length-on_each, map-on_each, on_each-at, total-on_each}
 use Rattle.range_core.proofs.range.drops.DropPagesChangeRange.apply.Goals as goal
+use Rattle.range_core.proofs.StakeTruth.{works}
 
 abbrev drops : ℕ → Cell → Cell
 drops _ c = without_clean_page c
@@ -34,7 +35,7 @@ returns c s =
       entry = entry;
       done = record { change = refl; value = c.drop_clean.ensures.state; claims_are = refl; count = c.drop_clean.ensures.count; entry_is = refl };
       holds = subst T (sym c.drop_clean.ensures.state)
-          (paged_truth s.opening was cells s.history entry s.stakes s.number claims s.made s.stands.holds s.stands.here
+          (paged_truth s.opening was cells s.history entry s.stakes s.number claims s.made s.stands.holds (works s.stands.here s.is_ready.own)
           (record { content = λ b x. refl; failed = refl; lent = refl; changed = refl; stamps = refl; found = λ b s. refl })
           tt refl
           (length-on_each drops 0 low run.blocks was.cells)

@@ -6,6 +6,11 @@ use Rattle.range_core.specs.declared.sample.Sample.{Sample}
 use Rattle.range_core.proofs.AfterEntry.{quiet_truth}
 use Rattle.range_core.proofs.KindRuns.{present_sample}
 use Rattle.range_core.proofs.range.look.LookChangeRange.apply.Goals as goal
+use Rattle.range_core.proofs.StakeTruth.{works}
+use Rattle.range_core.proofs.LiesLemmas.{lies_now, sample_lies}
+
+pub sample-requires : goal.sample-requires
+sample-requires c = let s = c.requires in lies_now s.opening c.args.value.now c.args.self.now.block 1 s.stands.holds.same_run s.is_ready.may.lies
 
 pub returns : goal.returns
 returns c s =
@@ -17,9 +22,9 @@ returns c s =
     let is : sample ≡ sample_at was look.block look.most = c.sample.ensures in
     record {
       entry = entry;
-      done = record { change = refl; value = refl; claims_are = refl; sample_is = is; entry_is = refl };
-      holds = quiet_truth s.opening was s.history entry s.stakes s.number claims s.made s.stands.holds s.stands.here
+      done = record { change = refl; value = refl; claims_are = refl; sample_is = is; entry_is = refl; lies = sample_lies s.opening was look.block look.most sample s.stands.holds.same_run s.is_ready.may is };
+      holds = quiet_truth s.opening was s.history entry s.stakes s.number claims s.made s.stands.holds (works s.stands.here s.is_ready.own)
           (record { content = λ b x. refl; state = λ b x. refl; failed = refl; lent = refl; changed = refl; stamps = refl; found = λ b s. refl })
-          (present_sample was look.block look.most sample (omega (arith, s.is_ready.low, s.stands.holds.same_run.first)) is)
+          (present_sample was look.block look.most sample (omega (arith, s.is_ready.may.lies.low, s.stands.holds.same_run.first)) is)
           refl;
     }

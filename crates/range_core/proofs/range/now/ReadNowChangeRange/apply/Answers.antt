@@ -3,6 +3,7 @@ use Rattle.range_core.specs.ReadsNow.{now_entry}
 use Rattle.range_core.specs.declared.entry.Entry.{Entry}
 use Rattle.range_core.proofs.NowTruth.{answered_truth, read_contents}
 use Rattle.range_core.proofs.range.now.ReadNowChangeRange.apply.Goals as goal
+use Rattle.range_core.proofs.StakeTruth.{works}
 
 pub returns : goal.returns
 returns g c s =
@@ -13,7 +14,7 @@ returns g c s =
     let entry : Entry = now_entry claims change.by change.block most c.read_now.result in
     let e = c.read_now.ensures in
     let t = s.stands.holds in
-    let can = s.is_ready.1 in
+    let can = s.is_ready.may.1 in
     let low = can.here.low in
     let first = t.same_run.first in
     record {
@@ -35,6 +36,6 @@ returns g c s =
         unfilled = e.unfilled;
         shapes = e.shapes;
       };
-      holds = answered_truth s.opening was s.history change.by change.block most s.stakes s.number claims s.made c.read_now.new.self c.read_now.result t s.stands.here
+      holds = answered_truth s.opening was s.history change.by change.block most s.stakes s.number claims s.made c.read_now.new.self c.read_now.result t (works s.stands.here s.is_ready.own)
           (t.same_run.mode ∙ can.cached) (omega arith) e.count e.state e.unchanged;
     }

@@ -11,15 +11,16 @@ use Rattle.range_core.specs.declared.lending.Lent.{Lent}
 use Rattle.range_core.proofs.FilledTruth.{filled_holds}
 use Rattle.range_core.proofs.ReturnLemmas.{comes_back}
 use Rattle.range_core.proofs.range.reading.FillPagesChangeRange.apply.Goals as goal
+use Rattle.range_core.proofs.StakeTruth.{works}
 
 pub fill_back-requires : goal.fill_back-requires
 fill_back-requires c =
     let s = c.requires in
-    let ready = s.is_ready in
+    let ready = s.is_ready.may in
     let given : c.args.self.now.back ≡ Some c.in-Some.back = sym c.take.ensures.value ∙ c.in-Some.is in
     let same : ready.back ≡ c.in-Some.back = let both : Some ready.back ≡ Some c.in-Some.back = sym ready.given_is ∙ given in cc in
     let C : Lent → Type 0 = λ l. ComesBack c.args.value.now c.args.claims.now Reading Read l c.args.self.now.done in
-    subst C same (comes_back s.opening c.args.value.now s.history s.stakes s.number c.args.claims.now s.made Reading Read ready.back c.args.self.now.done s.stands.holds s.stands.here ready.may)
+    subst C same (comes_back s.opening c.args.value.now s.history s.stakes s.number c.args.claims.now s.made Reading Read ready.back c.args.self.now.done s.stands.holds (works s.stands.here s.is_ready.own) ready.may)
 
 pub returns : goal.returns
 returns c s =
@@ -27,7 +28,7 @@ returns c s =
     let now = c.args.value.now in
     let back : Lent = c.in-Some.back in
     let done = c.args.self.now.done in
-    let ready = s.is_ready in
+    let ready = s.is_ready.may in
     let given : c.args.self.now.back ≡ Some back = sym c.take.ensures.value ∙ c.in-Some.is in
     let same : ready.back ≡ back = let both : Some ready.back ≡ Some back = sym ready.given_is ∙ given in cc in
     let M : Lent → Type 0 = λ l. MayComeBack s.opening claims Reading Read l done in
@@ -37,5 +38,5 @@ returns c s =
     record {
       entry = entry;
       done = record { back = back; given = given; change_is = ap (λ (b : Option Lent). record c.args.self.now { back = b }) c.take.ensures.after; value = c.fill_back.ensures.state; claims_are = c.fill_back.ensures.claims; entry_is = refl };
-      holds = subst N (sym c.fill_back.ensures.state) (subst L (sym c.fill_back.ensures.claims) (filled_holds s.opening now s.history s.stakes s.number claims s.made back done s.stands.holds s.stands.here (subst M same ready.may)));
+      holds = subst N (sym c.fill_back.ensures.state) (subst L (sym c.fill_back.ensures.claims) (filled_holds s.opening now s.history s.stakes s.number claims s.made back done s.stands.holds (works s.stands.here s.is_ready.own) (subst M same ready.may)));
     }

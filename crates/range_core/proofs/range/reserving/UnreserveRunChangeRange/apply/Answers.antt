@@ -9,6 +9,7 @@ use Rattle.range_core.specs.declared.entry.Outcome.TheVariants.{Counted}
 use Rattle.range_core.proofs.PoolLemmas.{kept_for}
 use Rattle.range_core.proofs.UnreserveTruth.{unreserve_truth}
 use Rattle.range_core.proofs.range.reserving.UnreserveRunChangeRange.apply.Goals as goal
+use Rattle.range_core.proofs.StakeTruth.{works}
 
 pub returns : goal.returns
 returns g c s =
@@ -21,5 +22,5 @@ returns g c s =
     record {
       entry = entry;
       done = record { change = refl; claims_are = refl; count = told.count; state = told.state; pool = told.pool; entry_is = refl };
-      holds = subst T (sym told.state) (unreserve_truth s.opening was c.unreserve.new.self.seat s.history s.stakes s.number claims s.made run.block run.blocks c.unreserve.result s.stands.holds s.stands.here s.is_ready.lies (kept_for c.unreserve.result (UnreservesAt (pool_cell run.space.now).opening c.unreserve.result) (λ _ _ t. t.keeps) (place_of was) (place_of c.unreserve.new.self) told.pool) told.count);
+      holds = subst T (sym told.state) (unreserve_truth s.opening was c.unreserve.new.self.seat s.history s.stakes s.number claims s.made run.block run.blocks c.unreserve.result s.stands.holds (works s.stands.here s.is_ready.own) s.is_ready.may.lies (kept_for c.unreserve.result (UnreservesAt (pool_cell run.space.now).opening c.unreserve.result) (λ _ _ t. t.keeps) (place_of was) (place_of c.unreserve.new.self) told.pool) told.count);
     }

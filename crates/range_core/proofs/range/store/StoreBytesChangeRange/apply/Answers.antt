@@ -8,6 +8,7 @@ use Rattle.range_core.proofs.SampleLemmas.{given_later, known_sample}
 use Rattle.range_core.proofs.StoreLemmas.{length-next_bytes}
 use Rattle.range_core.proofs.StoreTruth.{store_keeps}
 use Rattle.range_core.proofs.range.store.StoreBytesChangeRange.apply.Goals as goal
+use Rattle.range_core.proofs.StakeTruth.{works}
 
 pub store-requires-clause-pages : goal.store-requires-clause-pages
 store-requires-clause-pages c = pages_whole c.requires.opening c.args.value.now c.requires.history c.requires.stakes c.requires.stands.holds
@@ -19,8 +20,8 @@ returns c s =
     let claims = c.args._claims.now in
     let entry : Entry = store_entry claims x answer in
     let e = c.store.ensures in
-    let can = s.is_ready.can in
-    let known : IsKnown c.args.value.now x.seen = known_sample s.opening c.args.value.now s.history s.stakes x.seen s.stands.holds (given_later x.seen s.seen s.history s.begins s.is_ready.given) in
+    let can = s.is_ready.may.can in
+    let known : IsKnown c.args.value.now x.seen = known_sample s.opening c.args.value.now s.history s.stakes x.seen s.stands.holds (given_later x.seen s.seen s.history s.begins s.is_ready.may.given) in
     record {
       entry = entry;
       done = record {
@@ -39,6 +40,6 @@ returns c s =
         entry_is = refl;
       };
       holds =
-          store_keeps s.opening c.args.value.now s.history s.stakes s.number claims s.made x.by x.seen x.from x.to (stored_bytes x) c.store.new.self s.stands.holds s.stands.here can.bytes can.extent can.space
+          store_keeps s.opening c.args.value.now s.history s.stakes s.number claims s.made x.by x.seen x.from x.to (stored_bytes x) c.store.new.self s.stands.holds (works s.stands.here s.is_ready.own) can.bytes can.extent can.space
           (length-next_bytes x.iov.now (x.to - x.from) can.room) known e.met answer e.made e.unchanged e.state;
     }

@@ -12,15 +12,16 @@ use Rattle.range_core.specs.declared.lending.Lent.{Lent}
 use Rattle.range_core.proofs.WrittenTruth.{written_holds}
 use Rattle.range_core.proofs.ReturnLemmas.{comes_back}
 use Rattle.range_core.proofs.range.writeback.EndWritebackChangeRange.apply.Goals as goal
+use Rattle.range_core.proofs.StakeTruth.{works}
 
 pub written_back-requires-clause-back : goal.written_back-requires-clause-back
 written_back-requires-clause-back c =
     let s = c.requires in
-    let ready = s.is_ready in
+    let ready = s.is_ready.may in
     let given : c.args.self.now.back ≡ Some c.in-Some.back = sym c.take.ensures.value ∙ c.in-Some.is in
     let same : ready.back ≡ c.in-Some.back = let both : Some ready.back ≡ Some c.in-Some.back = sym ready.given_is ∙ given in cc in
     let C : Lent → Type 0 = λ l. ComesBack c.args.value.now c.args.claims.now Writeback Write l c.args.self.now.done in
-    subst C same (comes_back s.opening c.args.value.now s.history s.stakes s.number c.args.claims.now s.made Writeback Write ready.back c.args.self.now.done s.stands.holds s.stands.here ready.may)
+    subst C same (comes_back s.opening c.args.value.now s.history s.stakes s.number c.args.claims.now s.made Writeback Write ready.back c.args.self.now.done s.stands.holds (works s.stands.here s.is_ready.own) ready.may)
 
 pub returns : goal.returns
 returns c s =
@@ -28,7 +29,7 @@ returns c s =
     let now = c.args.value.now in
     let back : Lent = c.in-Some.back in
     let done = c.args.self.now.done in
-    let ready = s.is_ready in
+    let ready = s.is_ready.may in
     let given : c.args.self.now.back ≡ Some back = sym c.take.ensures.value ∙ c.in-Some.is in
     let same : ready.back ≡ back = let both : Some ready.back ≡ Some back = sym ready.given_is ∙ given in cc in
     let M : Lent → Type 0 = λ l. MayComeBack s.opening claims Writeback Write l done in
@@ -38,5 +39,5 @@ returns c s =
     record {
       entry = entry;
       done = record { back = back; count = c.written_back.ensures.count; given = given; change_is = ap (λ (b : Option Lent). record c.args.self.now { back = b }) c.take.ensures.after; value = c.written_back.ensures.state; claims_are = c.written_back.ensures.claims; entry_is = refl };
-      holds = subst N (sym c.written_back.ensures.state) (subst L (sym c.written_back.ensures.claims) (written_holds s.opening now s.history s.stakes s.number claims s.made back done c.written_back.result s.stands.holds s.stands.here (subst M same ready.may)));
+      holds = subst N (sym c.written_back.ensures.state) (subst L (sym c.written_back.ensures.claims) (written_holds s.opening now s.history s.stakes s.number claims s.made back done c.written_back.result s.stands.holds (works s.stands.here s.is_ready.own) (subst M same ready.may)));
     }
