@@ -37,6 +37,7 @@ goes_on cell before after claims left sample loan was on same = record {
   at_cell = on.cell ∙ was.at_cell;
   given = still_given before after sample on was.given;
   holds = let P : ClaimsView → Type 0 = λ c. Holds cell.opening c loan in subst P (sym same) was.holds;
+  own = ap (λ (c : ClaimsView). c.main) same ∙ was.own;
 }
 
 pub takes : (cell : CellView RangeView) (before after : SeatView Entry) (claims left : ClaimsView) (sample : Option Sample) (loan : Option (Lender × Lent)) (lender : Lender) (lent : Lent) (kind : Kind) → IsCaller cell before claims sample loan
@@ -52,6 +53,7 @@ takes cell before after claims left sample loan lender lent kind was on t ready 
     ready = ready;
     lies = lies;
   };
+  own = ap (λ (c : ClaimsView). c.main) t.left_is ∙ was.own;
 }
 
 -- blocks of a small range
@@ -67,4 +69,5 @@ gives_back cell before after claims left sample loan was on gone = record {
   at_cell = on.cell ∙ was.at_cell;
   given = still_given before after sample on was.given;
   holds = ap (λ (c : ClaimsView). c.held) gone;
+  own = ap (λ (c : ClaimsView). c.main) gone ∙ was.own;
 }

@@ -1,5 +1,5 @@
 -- A range of six blocks at a cell, and its callers.
-use Rattle.std.specs.Prelude.{◌≡◌, ℕ, Option, Some, None, IfSome, List, [], ◌∷◌, length}
+use Rattle.std.specs.Prelude.{◌≡◌, ℕ, Option, Some, None, IfSome, List, [], ◌∷◌, length, true}
 use Rattle.iob_base.specs.declared.stamp.Mode.{Mode}
 use Rattle.fault_device.specs.Transfer.{CanTransfer}
 use Rattle.io_model.specs.declared.file.Extent.{Extent}
@@ -48,11 +48,12 @@ abbrev pub Holds : RangeView → ClaimsView → Option (Lender × Lent) → Type
 Holds opening claims None = claims.held ≡ None
 Holds opening claims (Some loan) = IsLentFor opening claims loan.0 loan.1
 
--- a seat of a cell was given the sample, and claims the loan
+-- a caller's own seat of a cell was given the sample, and claims the loan
 pub record IsCaller (cell : CellView RangeView) (seat : SeatView Entry) (claims : ClaimsView) (sample : Option Sample) (loan : Option (Lender × Lent)) : Type 0 where
   pub at_cell : seat.cell ≡ cell.cell
   pub given : IfSome sample (λ s. WasGiven s seat.seen)
   pub holds : Holds cell.opening claims loan
+  pub own : claims.main ≡ true
 
 module _ {g : Ghosts RangeView ClaimsView Entry} where
   abbrev pub Stands : TurnCell RangeView ClaimsView Entry → TurnSeat RangeView ClaimsView Entry g → Option Sample → Option (Lender × Lent) → Type 0

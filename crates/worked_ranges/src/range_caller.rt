@@ -1,5 +1,5 @@
 //! A caller at a range: its seat, the sample that it was given last, and what it was lent. A method makes one turn.
-ghost use Rattle.std.specs.Prelude.{◌≡◌, ◌^◌, ◌<◌, ◌≤◌, ◌+◌, ◌-◌, ◌/◌, Some, None};
+ghost use Rattle.std.specs.Prelude.{◌≡◌, ◌^◌, ◌<◌, ◌≤◌, ◌+◌, ◌-◌, ◌/◌, Some, None, true};
 ghost use Rattle.turn_cell.specs.Seats.{cell_view, seat_claims, seat_view};
 ghost use Rattle.turn_cell.specs.Views.{first_seat};
 ghost use Rattle.range_core.specs.ClaimsView.{first_claims};
@@ -10,7 +10,7 @@ use io_model::{Extent, Kind};
 use iob_base::{Mode, Tag};
 use range_core::{
     AttachRun, DropPages, EventFault, Lender, Lent, Look, NextCaller, PreallocateRun, Range,
-    ReserveRun, SameCaller, Sample, UnreserveRun, WipeRun,
+    ReserveRun, Sample, UnreserveRun, WipeRun,
 };
 use std::alloc::Global;
 use std::process::Abort;
@@ -38,6 +38,7 @@ fn caller_at<'a, R>(
 ) -> Caller<'a, R>
     requires cell { (seat_view seat).cell ≡ (cell_view ground.now.cell).cell }
     requires free { (seat_claims seat).held ≡ None }
+    requires own { (seat_claims seat).main ≡ true }
     ensures { Stands result.ground.now.cell result.seat result.sample result.loan }
 {
     Caller {
@@ -49,24 +50,6 @@ fn caller_at<'a, R>(
         sample: None,
         loan: None,
     }
-}
-
-/// A caller at a range, and a ticket of its own, whose seat works under the same number.
-pub(crate) fn caller_and_ticket<'a, R: Abort + Wait>(
-    rt: &'a R,
-    alloc: Global,
-    ground: &'a Ground,
-    mut seat: TurnSeat<Range>,
-) -> (Caller<'a, R>, Caller<'a, R>)
-    requires seat { seat_view seat ≡ first_seat (cell_view ground.now.cell).cell (2 ^ 63) }
-    requires claims { seat_claims seat ≡ first_claims }
-    ensures first { Stands result.0.ground.now.cell result.0.seat result.0.sample result.0.loan }
-    ensures second { Stands result.1.ground.now.cell result.1.seat result.1.sample result.1.loan }
-{
-    let other = ground.cell.split(&mut seat, 1, &mut SameCaller {});
-    let first = caller_at(rt, alloc, ground, seat, Tag { caller: 0, call: 7 });
-    let ticket = caller_at(rt, alloc, ground, other, Tag { caller: 0, call: 8 });
-    (first, ticket)
 }
 
 /// Two callers at a range.
@@ -188,6 +171,7 @@ impl<'a, R: Abort + Wait> Caller<'a, R> {
         ensures stands { Stands self.new.ground.now.cell self.new.seat self.new.sample self.new.loan }
     {
         self.expect_run(block, 1);
+        assert!(self.rt; 0 < most, "some blocks");
         let mut change = Look { block, most };
         let sample = self.ground.cell.turn(self.rt, &mut self.seat, &mut change);
         self.sample = Some(sample);

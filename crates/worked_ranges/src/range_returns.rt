@@ -1,5 +1,5 @@
 //! What was lent to one of two callers comes back after its transfer, with the turns of the other one in between.
-use crate::range_runs::{CACHED, Run, play, play_on_ticket};
+use crate::range_runs::{CACHED, Run, play};
 use crate::range_steps::Step;
 use iob_base::Op;
 use std::test::Fail;
@@ -308,21 +308,6 @@ fn pages_of_a_caller_come_back(rt: HostRuntime) -> Result<(), Fail> {
         &DIRECT_CONVERTS,
     ] {
         play(&rt, rt.alloc(), run)?;
-    }
-    Ok(())
-}
-
-// A ticket has no number of its own. What it asks for, lends and brings back is answered as it is for a caller.
-#[test]
-fn tickets_lend_and_return(rt: HostRuntime) -> Result<(), Fail> {
-    for run in [
-        &READ_IN,
-        &WRITTEN_FAILS,
-        &CONVERTED_UNDER_STORES,
-        &DIRECT_READS,
-        &DIRECT_WRITES_FAIL,
-    ] {
-        play_on_ticket(&rt, rt.alloc(), run)?;
     }
     Ok(())
 }

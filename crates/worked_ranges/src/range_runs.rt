@@ -1,7 +1,7 @@
 //! Runs of turns at a range, with what each turn is to answer.
 ghost use Rattle.worked_ranges.specs.SmallRanges.{Stands};
 
-use crate::range_caller::{Caller, caller_and_ticket, two_callers};
+use crate::range_caller::{Caller, two_callers};
 use crate::range_ground::{Begin, started};
 use crate::range_steps::Step;
 use fault_device::{Lane, Listed};
@@ -94,18 +94,5 @@ pub(crate) fn play<R: Abort + Wait>(rt: &R, alloc: Global, run: &Run) -> Result<
     let (first, second) = two_callers(rt, alloc, &ground, seat);
     let mut lane = armed_lane(alloc, run.fails)?;
     take_turns(rt, run.lines, first, second, &mut lane)?;
-    Ok(())
-}
-
-/// The same, where the second one is a ticket of the first.
-pub(crate) fn play_on_ticket<R: Abort + Wait>(
-    rt: &R,
-    alloc: Global,
-    run: &Run,
-) -> Result<(), Fail> {
-    let (ground, seat) = started(alloc, run.begin).ok_or("there is memory")?;
-    let (first, ticket) = caller_and_ticket(rt, alloc, &ground, seat);
-    let mut lane = armed_lane(alloc, run.fails)?;
-    take_turns(rt, run.lines, first, ticket, &mut lane)?;
     Ok(())
 }
