@@ -1,8 +1,11 @@
-use Rattle.std.proofs.Common.{◌≡◌, ℕ, ◌+◌, ◌-◌, ◌≤◌, List, ◌++◌, map, length, drop, sym, ◌∙◌, ap, subst, arith, length-drop}
+use Rattle.std.proofs.Common.{rules, ◌≡◌, Bool, Some, Option, refl, ℕ, ◌+◌, ◌-◌, ◌≤◌, List, ◌++◌, map, length, take, drop, sym, ◌∙◌, ap, subst, arith, length-drop}
 use Rattle.std.specs.List.{refill}
 use Rattle.iob_base.specs.declared.sector.Page.{Page}
 use Rattle.turn_cell.specs.Seats.{seat_claims, seat_view}
-use Rattle.range_core.specs.DirectNow.{AreReady, CanReadNow, now_length, pages_filled}
+use Rattle.fault_device.specs.declared.lane.Done.{Done}
+use Rattle.range_core.specs.Refusals.{◌orElse◌, away, dirty, direct_now_refusal, first_that_stops}
+use Rattle.range_core.specs.declared.fault.EventFault.{EventFault}
+use Rattle.range_core.specs.DirectNow.{AreReady, CanReadNow, RefusesNow, now_length, pages_filled}
 use Rattle.range_core.specs.Events.{page_shape}
 use Rattle.range_core.specs.RangeView.{RangeView, range_view}
 use Rattle.range_core.specs.Stamps.{stamps_from}
@@ -120,3 +123,21 @@ returns-clause-shapes g c =
     let many : length (pages_filled size n (drop at cells) pages) ≡ length pages = ap length (sym filled) ∙ c.fill_pages.auto.pages ∙ ap length c.as_mut_slice.ensures.value in
     let shapes : map page_shape (pages_filled size n (drop at cells) pages) ≡ map page_shape pages = filled-shapes size n (drop at cells) pages ready can.whole in
     subst F (sym filled) (ap (map page_shape) (refill-whole pages (pages_filled size n (drop at cells) pages) many) ∙ shapes)
+
+-- what hinders the read is its refusal
+refuses_some : (r : Option EventFault) (fault : EventFault) (mapped : Bool) (told : Done → Type 0) (same : Type 0) → r ≡ Some fault → same → RefusesNow r mapped told same fault
+refuses_some r fault mapped told same is kept =
+    let R : Option EventFault → Type 0 = λ o. RefusesNow o mapped told same fault in
+    subst R (sym is) (refl, kept)
+
+pub returns-in-Some-clause-refused : goal.returns-in-Some-clause-refused
+returns-in-Some-clause-refused g c =
+    let cells : List Cell = c.self.inside.cells.items in
+    let block = c.args.block in
+    let at : ℕ = block - c.self.inside.first in
+    let one : at + 1 - at ≡ 1 = omega arith in
+    let G : ℕ → List Cell → Option EventFault = λ n cs. first_that_stops away block (take n (drop at cs)) orElse first_that_stops dirty block (take n (drop at cs)) in
+    let here : c.now_stop.result ≡ G 1 cells = c.now_stop.ensures ∙ ap (λ n. G n c.deref.result.now) one ∙ ap (G 1) c.deref.ensures.value in
+    let V : RangeView → Type 0 = λ v. direct_now_refusal v block ≡ Some c.in-Some.fault in
+    let stop : direct_now_refusal c.args.self.now block ≡ Some c.in-Some.fault = subst V c.self.view_is (sym here ∙ c.in-Some.is) in
+    refuses_some _ _ _ _ _ stop (search rules)
