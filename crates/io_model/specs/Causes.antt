@@ -1,15 +1,15 @@
-use Rattle.std.specs.Prelude.{ℕ, zero, suc, Bool, true, false, not, ◌&&◌, ◌||◌, ◌==◌, nat_le, nat_lt, ◌+◌, ◌-◌, max, min, List, [], ◌∷◌, Option, Some, None, slice_get, if◌then◌else◌, IsTrue}
+use Rattle.std.specs.Prelude.{ℕ, zero, suc, Bool, true, false, not, ◌&&◌, ◌||◌, ◌==◌, nat_le, nat_lt, ◌+◌, ◌-◌, max, List, [], ◌∷◌, Option, Some, None, slice_get, if◌then◌else◌, IsTrue}
 use Rattle.std.specs.List.{list_all, list_any}
 use Rattle.iob_base.specs.Counts.{has_risen}
 use Rattle.iob_base.specs.declared.answer.Fault.{Fault}
-use Rattle.iob_base.specs.declared.answer.Fault.TheVariants.{Eio, SyncEio, Again, NoMemory, NotAligned, TooFar, NoSpace, Worn}
+use Rattle.iob_base.specs.declared.answer.Fault.TheVariants.{Eio, SyncEio, NoSpace, Worn}
 use Rattle.iob_base.specs.declared.answer.Reply.{Reply}
 use Rattle.iob_base.specs.declared.answer.Reply.TheVariants.{Ok, Err}
 use Rattle.iob_base.specs.declared.answer.Stop.{Stop}
 use Rattle.iob_base.specs.declared.answer.Stop.TheVariants.{Whole, End}
 use Rattle.iob_base.specs.declared.answer.Stop.TheVariants.{Fault as Short}
 use Rattle.iob_base.specs.declared.stamp.Mark.{Mark}
-use Rattle.iob_base.specs.declared.stamp.Mark.TheVariants.{Done, Landed, Missed}
+use Rattle.iob_base.specs.declared.stamp.Mark.TheVariants.{Done}
 use Rattle.io_model.specs.Journals.{each_block}
 use Rattle.io_model.specs.Lists.{both_from, each_pair, is_some_and}
 use Rattle.io_model.specs.declared.file.FileSpec.{FileSpec}

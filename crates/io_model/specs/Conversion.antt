@@ -1,10 +1,9 @@
 use Rattle.std.specs.Prelude.{ℕ, Bool, true, false, not, ◌&&◌, ◌||◌, ◌==◌, nat_lt, ◌+◌, max, List, [], ◌∷◌, Option, Some, None, slice_get, is_some, if◌then◌else◌, IsTrue}
 use Rattle.std.specs.List.{list_all, list_any, filter}
 use Rattle.iob_base.specs.declared.answer.Answer.{Answer}
-use Rattle.iob_base.specs.declared.answer.Fault.{Fault}
 use Rattle.iob_base.specs.declared.answer.Fault.TheVariants.{SyncEio}
 use Rattle.iob_base.specs.declared.answer.Reply.{Reply}
-use Rattle.iob_base.specs.declared.answer.Reply.TheVariants.{Ok, Err}
+use Rattle.iob_base.specs.declared.answer.Reply.TheVariants.{Err}
 use Rattle.iob_base.specs.declared.stamp.Mark.{Mark}
 use Rattle.iob_base.specs.declared.stamp.Mark.TheVariants.{Done}
 use Rattle.iob_base.specs.declared.stamp.Stamp.{Stamp}

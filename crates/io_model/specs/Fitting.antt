@@ -1,4 +1,4 @@
-use Rattle.std.specs.Prelude.{ℕ, Bool, true, false, not, ◌&&◌, ◌==◌, nat_lt, ◌+◌, List, [], ◌∷◌, Option, Some, None, length, is_some, IsTrue}
+use Rattle.std.specs.Prelude.{ℕ, Bool, true, false, not, ◌&&◌, ◌==◌, nat_lt, ◌+◌, List, [], ◌∷◌, Option, Some, None, length, IsTrue}
 use Rattle.std.specs.List.{list_all}
 use Rattle.iob_base.specs.DeviceBlock.{DeviceBlock}
 use Rattle.iob_base.specs.declared.answer.Fault.{Fault}
@@ -9,7 +9,7 @@ use Rattle.iob_base.specs.declared.answer.Stop.{Stop}
 use Rattle.iob_base.specs.declared.answer.Stop.TheVariants.{Fault as Short}
 use Rattle.iob_base.specs.declared.sector.Page.{Page}
 use Rattle.io_model.specs.Kinds.{kind_at, kind_after, device_number, is_kind}
-use Rattle.io_model.specs.Lists.{same, both_from, each_from}
+use Rattle.io_model.specs.Lists.{both_from, each_from}
 use Rattle.io_model.specs.declared.file.BlockEnd.{BlockEnd}
 use Rattle.io_model.specs.declared.file.Extent.{Extent}
 use Rattle.io_model.specs.declared.file.FileEnd.{FileEnd}

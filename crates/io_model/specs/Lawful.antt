@@ -1,7 +1,6 @@
 use Rattle.std.specs.Prelude.{ℕ, Bool, true, false, not, ◌&&◌, ◌||◌, ◌==◌, nat_le, nat_lt, ◌+◌, ◌*◌, ◌-◌, ◌%◌, min, List, [], ◌∷◌, Option, Some, None, if◌then◌else◌, IsTrue}
 use Rattle.iob_base.specs.declared.answer.Alignment.{Alignment}
 use Rattle.iob_base.specs.declared.answer.Alignment.TheVariants.{Offset, Segment}
-use Rattle.iob_base.specs.declared.answer.Answer.{Answer}
 use Rattle.iob_base.specs.declared.answer.Fault.{Fault}
 use Rattle.iob_base.specs.declared.answer.Fault.TheVariants.{Eio, SyncEio, Again, NoMemory, NotAligned, TooFar, NoSpace, Worn}
 use Rattle.iob_base.specs.declared.answer.Reply.{Reply}
@@ -10,14 +9,14 @@ use Rattle.iob_base.specs.declared.answer.Stop.{Stop}
 use Rattle.iob_base.specs.declared.answer.Stop.TheVariants.{Whole, End}
 use Rattle.iob_base.specs.declared.answer.Stop.TheVariants.{Fault as Short}
 use Rattle.io_model.specs.Calls.{asked_of, offset_of, lengths_of, is_data_call, is_direct, is_trunc, is_alloc, is_write, is_sync}
-use Rattle.io_model.specs.Contents.{blocks_of, file_blocks}
+use Rattle.io_model.specs.Contents.{file_blocks}
 use Rattle.io_model.specs.Lists.{both_from}
 use Rattle.io_model.specs.Parts.{Span, span_length, blocks_met}
 use Rattle.io_model.specs.Ranges.{Ranged, ranged_calls}
 use Rattle.io_model.specs.declared.run.Run.{Run}
 use Rattle.io_model.specs.declared.script.Script.{Script}
 use Rattle.io_model.specs.declared.script.Verb.{Verb}
-use Rattle.io_model.specs.declared.script.Verb.TheVariants.{Pread, Pwrite, Dread, Dwrite, Xread, Xwrite, Zero, Punch, Alloc, Wb, Sync, Drop, Trunc}
+use Rattle.io_model.specs.declared.script.Verb.TheVariants.{Pread, Dread, Xread, Zero, Alloc, Wb, Sync, Drop, Trunc}
 
 -- the first length that is no multiple of the grain, with its number from n on
 abbrev pub unaligned_length : ℕ → ℕ → List ℕ → Option Alignment

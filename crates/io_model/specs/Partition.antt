@@ -1,4 +1,4 @@
-use Rattle.std.specs.Prelude.{ℕ, zero, suc, Bool, true, ◌&&◌, ◌==◌, ◌+◌, List, [], ◌∷◌, ◌++◌, Option, Some, None, if◌then◌else◌, IsTrue}
+use Rattle.std.specs.Prelude.{ℕ, zero, suc, Bool, true, ◌&&◌, ◌==◌, ◌+◌, List, [], ◌∷◌, Option, Some, None, if◌then◌else◌, IsTrue}
 use Rattle.iob_base.specs.DeviceBlock.{DeviceBlock}
 use Rattle.io_model.specs.declared.file.BlockEnd.{BlockEnd}
 use Rattle.io_model.specs.declared.file.FileEnd.{FileEnd}

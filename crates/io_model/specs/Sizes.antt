@@ -1,5 +1,5 @@
 use Rattle.std.specs.Prelude.{ℕ, Bool, true, false, not, ◌&&◌, ◌||◌, ◌==◌, ◌+◌, max, List, [], ◌∷◌, Option, Some, None, if◌then◌else◌, IsTrue}
-use Rattle.std.specs.List.{filter, list_all, sum}
+use Rattle.std.specs.List.{list_all, sum}
 use Rattle.iob_base.specs.declared.answer.Fault.{Fault}
 use Rattle.iob_base.specs.declared.answer.Fault.TheVariants.{TooFar}
 use Rattle.iob_base.specs.declared.answer.Reply.{Reply}
@@ -7,8 +7,6 @@ use Rattle.iob_base.specs.declared.answer.Reply.TheVariants.{Ok, Err}
 use Rattle.io_model.specs.Journals.{is_in_caller_order, is_in_phase_order}
 use Rattle.io_model.specs.Lawful.{is_whole}
 use Rattle.io_model.specs.Lists.{both_from, each_pair, numbered, is_some_and}
-use Rattle.io_model.specs.declared.file.FileEnd.{FileEnd}
-use Rattle.io_model.specs.declared.file.FileSpec.{FileSpec}
 use Rattle.io_model.specs.declared.file.SizeMark.{SizeMark}
 use Rattle.io_model.specs.declared.file.SizeMark.TheVariants.{See, Grow, Cut}
 use Rattle.io_model.specs.declared.file.SizeStamp.{SizeStamp}
