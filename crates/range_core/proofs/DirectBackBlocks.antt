@@ -40,7 +40,7 @@ use Rattle.range_core.proofs.TransferLemmas.{after-at, moved, part_after}
 -- a block that is out on a claim for a caller's own page: what its part has, and that it has no page in the cache
 pub record IsDirectlyOut (size k : ℕ) (c : Cell) (content : Content) (op : Op) (by : Tag) (h : Held) : Type 0 where
   pub part : Part
-  pub part_is : slice_get h.lent.value.parts.items k ≡ Some part
+  pub part_is : slice_get h.lent.value.parts k ≡ Some part
   pub whole : IsWholePage size part.page
   pub lent : IsLentContent size (is_mapped c.kind) content part
   pub pageless : c.page ≡ None
@@ -60,7 +60,7 @@ directly_out size b k c content op by h at lender place claimed =
     let here : L (Direct by op) = subst L direct fits.fits in
     record {
       part = fits.part;
-      part_is = ap (slice_get h.lent.value.parts.items) (sym off) ∙ fits.part_is;
+      part_is = ap (slice_get h.lent.value.parts) (sym off) ∙ fits.part_is;
       whole = fits.page;
       lent = here.0;
       pageless = here.1;
@@ -179,12 +179,12 @@ pageless_clean size b c content stakes t none = at c.dirty refl
 -- a block that comes back is true of what its transfer left
 pub back_true : (size b k : ℕ) (was : Cell) (content after : Content) (op : Op) (by : Tag) (done : Done) (h : Held) (stakes others : List RangeStake) (claims left : ClaimsView) → ChangesSeat stakes others claims left
     → claims.held ≡ Some h → left.held ≡ None → names_block b (Some h) ≡ true → (out : IsDirectlyOut size k was content op by h) → AgreesBack size op done k was.kind out.part content after
-    → IsPlaced size (came_back op done.failed (parts_after op done.landed h.lent.value.parts.items) k was) → IsTrueAt size b was content stakes
-    → IsTrueAt size b (came_back op done.failed (parts_after op done.landed h.lent.value.parts.items) k was) after others
+    → IsPlaced size (came_back op done.failed (parts_after op done.landed h.lent.value.parts) k was) → IsTrueAt size b was content stakes
+    → IsTrueAt size b (came_back op done.failed (parts_after op done.landed h.lent.value.parts) k was) after others
 back_true size b k was content after op by done h stakes others claims left g some_h none named out agrees placed t =
     let q : Part = part_after op done.landed k out.part in
     let c : Cell = back_cell op done.failed q was in
-    let is : came_back op done.failed (parts_after op done.landed h.lent.value.parts.items) k was ≡ c = back-is op done.failed _ k q was (after-at op done.landed k h.lent.value.parts.items out.part out.part_is) in
+    let is : came_back op done.failed (parts_after op done.landed h.lent.value.parts) k was ≡ c = back-is op done.failed _ k q was (after-at op done.landed k h.lent.value.parts out.part out.part_is) in
     let T : Cell → Type 0 = λ x. IsTrueAt size b x after others in
     let Q : Cell → Type 0 = λ x. IsPlaced size x in
     let U : Option Page → Type 0 = λ o. IfSome o (λ p. p.bytes ≡ after) in

@@ -168,7 +168,7 @@ placed_with : (size : ℕ) (number : Option ℕ) (sector other : DeviceBlock) �
 placed_with size None sector other some is next = absurd (cc)
 placed_with size (Some d) sector other some is next = next d is
 
-pub back_placed : (size : ℕ) (op : Op) (failed : Bool) (landed k : ℕ) (h : Held) (c : Cell) → IsOutOn size h k c → IsPlaced size c → IsPlaced size (came_back op failed (parts_after op landed h.lent.value.parts.items) k c)
+pub back_placed : (size : ℕ) (op : Op) (failed : Bool) (landed k : ℕ) (h : Held) (c : Cell) → IsOutOn size h k c → IsPlaced size c → IsPlaced size (came_back op failed (parts_after op landed h.lent.value.parts) k c)
 back_placed size op failed landed k h c out placed =
     let p : Part = out.part in
     let q : Part = part_after op landed k p in
@@ -178,22 +178,22 @@ back_placed size op failed landed k h c out placed =
     let space : IsTrue (has_space c.kind) = (subst P out.away placed).1 in
     let here : HasSector size (device_number c.kind) (Some q.sector) =
     placed_with size (device_number c.kind) p.sector q.sector space out.sector (λ d is. after-block op landed k size d p is out.page) in
-    subst S (sym (back-is op failed (parts_after op landed h.lent.value.parts.items) k q c (after-at op landed k h.lent.value.parts.items p out.part_is)))
+    subst S (sym (back-is op failed (parts_after op landed h.lent.value.parts) k q c (after-at op landed k h.lent.value.parts p out.part_is)))
     (subst N (sym (number-back op failed c.kind)) here)
 
 -- each block of a return is one less away
-pub back_gone : (size : ℕ) (op : Op) (failed : Bool) (landed k : ℕ) (h : Held) (c : Cell) → IsOutOn size h k c → is_gone (came_back op failed (parts_after op landed h.lent.value.parts.items) k c) + 1 ≡ is_gone c + 0
+pub back_gone : (size : ℕ) (op : Op) (failed : Bool) (landed k : ℕ) (h : Held) (c : Cell) → IsOutOn size h k c → is_gone (came_back op failed (parts_after op landed h.lent.value.parts) k c) + 1 ≡ is_gone c + 0
 back_gone size op failed landed k h c out =
     let q : Part = part_after op landed k out.part in
     let one : is_gone c ≡ 1 = ap gone out.away in
-    let none : is_gone (came_back op failed (parts_after op landed h.lent.value.parts.items) k c) ≡ 0 =
-    ap is_gone (back-is op failed (parts_after op landed h.lent.value.parts.items) k q c (after-at op landed k h.lent.value.parts.items out.part out.part_is)) in
+    let none : is_gone (came_back op failed (parts_after op landed h.lent.value.parts) k c) ≡ 0 =
+    ap is_gone (back-is op failed (parts_after op landed h.lent.value.parts) k q c (after-at op landed k h.lent.value.parts out.part out.part_is)) in
     omega arith
 
 -- the pages of a claim come back, as the transfer left them
-pub pages_kept : (claims : ClaimsView) (h : Held) (op : Op) (back : Lent) (done : Done) → IsReturn claims h op back done → KeepsPages op (pages_held claims.held) (map (λ p. p.page) back.parts.items)
+pub pages_kept : (claims : ClaimsView) (h : Held) (op : Op) (back : Lent) (done : Done) → IsReturn claims h op back done → KeepsPages op (pages_held claims.held) (map (λ p. p.page) back.parts)
 pages_kept claims h op back done r =
-    let K : Option Held → Type 0 = λ o. KeepsPages op (pages_held o) (map (λ p. p.page) back.parts.items) in
+    let K : Option Held → Type 0 = λ o. KeepsPages op (pages_held o) (map (λ p. p.page) back.parts) in
     let L : List Part → Type 0 = λ l. KeepsPages op (pages_held (Some h)) (map (λ p. p.page) l) in
     subst K (sym r.held) (subst L (sym r.parts) (at op))
   where
@@ -201,21 +201,21 @@ pages_kept claims h op back done r =
     map-map [] = refl
     map-map (p ∷ parts) = ap (λ l. p.page.number ∷ l) (map-map parts)
 
-    at : (op : Op) → KeepsPages op (map (λ p. p.page) h.lent.value.parts.items) (map (λ p. p.page) (parts_after op done.landed h.lent.value.parts.items))
-    at Read = map-map (parts_after Read done.landed h.lent.value.parts.items) ∙ numbers-after Read done.landed h.lent.value.parts.items ∙ sym (map-map h.lent.value.parts.items)
-    at Write = pages-written done.landed h.lent.value.parts.items
+    at : (op : Op) → KeepsPages op (map (λ p. p.page) h.lent.value.parts) (map (λ p. p.page) (parts_after op done.landed h.lent.value.parts))
+    at Read = map-map (parts_after Read done.landed h.lent.value.parts) ∙ numbers-after Read done.landed h.lent.value.parts ∙ sym (map-map h.lent.value.parts)
+    at Write = pages-written done.landed h.lent.value.parts
 
 -- what comes back is a run of the range, and no more of it landed
 pub record IsBackRun (r : RangeView) (back : Lent) (done : Done) : Type 0 where
   pub low : r.first ≤ back.block
-  pub some : 0 < length back.parts.items
-  pub high : back.block + length back.parts.items ≤ r.first + length r.cells
-  pub landed : done.landed ≤ length back.parts.items
+  pub some : 0 < length back.parts
+  pub high : back.block + length back.parts ≤ r.first + length r.cells
+  pub landed : done.landed ≤ length back.parts
 
 module _ (r : RangeView) (claims : ClaimsView) (lender : Lender) (op : Op) (back : Lent) (done : Done) (comes : ComesBack r claims lender op back done) where
   pub back_run : IsBackRun r back done
   back_run =
-      let many : length back.parts.items ≡ length comes.claim.lent.value.parts.items = ap length comes.is_return.parts ∙ length-after op done.landed comes.claim.lent.value.parts.items in
+      let many : length back.parts ≡ length comes.claim.lent.value.parts = ap length comes.is_return.parts ∙ length-after op done.landed comes.claim.lent.value.parts in
       let at = comes.is_return.block in
       let low = comes.out.low in
       let high = comes.out.high in
@@ -224,9 +224,9 @@ module _ (r : RangeView) (claims : ClaimsView) (lender : Lender) (op : Op) (back
       record { low = omega arith; some = omega arith; high = omega arith; landed = omega arith }
 
   -- each block of the run is out on the claim
-  pub back_out : (k : ℕ) (c : Cell) → k < length back.parts.items → slice_get r.cells (back.block - r.first + k) ≡ Some c → IsOutOn r.geometry.block_size comes.claim k c
+  pub back_out : (k : ℕ) (c : Cell) → k < length back.parts → slice_get r.cells (back.block - r.first + k) ≡ Some c → IsOutOn r.geometry.block_size comes.claim k c
   back_out k c l at =
-      let many : length back.parts.items ≡ length comes.claim.lent.value.parts.items = ap length comes.is_return.parts ∙ length-after op done.landed comes.claim.lent.value.parts.items in
+      let many : length back.parts ≡ length comes.claim.lent.value.parts = ap length comes.is_return.parts ∙ length-after op done.landed comes.claim.lent.value.parts in
       let same = comes.is_return.block in
       comes.out.out k c (omega arith) (ap (λ b. slice_get r.cells (b - r.first + k)) (sym same) ∙ at)
 
@@ -242,45 +242,45 @@ module _ (r : RangeView) (claims : ClaimsView) (lender : Lender) (op : Op) (back
       let at : slice_get r.cells (back.block - r.first + 0) ≡ Some c = ap (slice_get r.cells) z ∙ slice_get-get_or r.cells (back.block - r.first) c within ∙ ap Some (sym e) in
       sym (back_out 0 c some at).kind ∙ kind_after-zero comes.claim.kind ∙ sym (ap kind_held comes.is_return.held)
 
-  pub back_rest : (failed : Bool) → total is_gone (on_each (came_back op failed back.parts.items) 0 (back.block - r.first) (length back.parts.items) r.cells) + length back.parts.items ≡ total is_gone r.cells
+  pub back_rest : (failed : Bool) → total is_gone (on_each (came_back op failed back.parts) 0 (back.block - r.first) (length back.parts) r.cells) + length back.parts ≡ total is_gone r.cells
   back_rest failed =
-      let n : ℕ = length back.parts.items in
+      let n : ℕ = length back.parts in
       let low : ℕ = back.block - r.first in
       let run = back_run in
       let begins = run.low in
       let ends = run.high in
-      let f : ℕ → Cell → Cell = came_back op failed back.parts.items in
+      let f : ℕ → Cell → Cell = came_back op failed back.parts in
       let t = total-moved f is_gone 1 0 0 low n r.cells (omega arith)
       (λ j x l at. let z : 0 + j ≡ j = omega arith in
       let G : List Part → Type 0 = λ ps. is_gone (came_back op failed ps (0 + j) x) + 1 ≡ is_gone x + 0 in
-      let J : ℕ → Type 0 = λ m. is_gone (came_back op failed (parts_after op done.landed comes.claim.lent.value.parts.items) m x) + 1 ≡ is_gone x + 0 in
+      let J : ℕ → Type 0 = λ m. is_gone (came_back op failed (parts_after op done.landed comes.claim.lent.value.parts) m x) + 1 ≡ is_gone x + 0 in
       subst G (sym comes.is_return.parts) (subst J (sym z) (back_gone r.geometry.block_size op failed done.landed j comes.claim x (back_out j x l at)))) in
       omega arith
 
-  pub back_places : (failed : Bool) → All (IsPlaced r.geometry.block_size) r.cells → All (IsPlaced r.geometry.block_size) (on_each (came_back op failed back.parts.items) 0 (back.block - r.first) (length back.parts.items) r.cells)
+  pub back_places : (failed : Bool) → All (IsPlaced r.geometry.block_size) r.cells → All (IsPlaced r.geometry.block_size) (on_each (came_back op failed back.parts) 0 (back.block - r.first) (length back.parts) r.cells)
   back_places failed places =
-      let n : ℕ = length back.parts.items in
+      let n : ℕ = length back.parts in
       let low : ℕ = back.block - r.first in
       let size : ℕ = r.geometry.block_size in
       let run = back_run in
       let begins = run.low in
       let ends = run.high in
-      let f : ℕ → Cell → Cell = came_back op failed back.parts.items in
+      let f : ℕ → Cell → Cell = came_back op failed back.parts in
       All-on_each_at f is_gone (IsPlaced size) 0 low n r.cells (omega arith)
       (λ j x l at here. let z : 0 + j ≡ j = omega arith in
       let G : List Part → Type 0 = λ ps. IsPlaced size (came_back op failed ps (0 + j) x) in
-      let J : ℕ → Type 0 = λ m. IsPlaced size (came_back op failed (parts_after op done.landed comes.claim.lent.value.parts.items) m x) in
+      let J : ℕ → Type 0 = λ m. IsPlaced size (came_back op failed (parts_after op done.landed comes.claim.lent.value.parts) m x) in
       subst G (sym comes.is_return.parts) (subst J (sym z) (back_placed size op failed done.landed j comes.claim x (back_out j x l at) here)))
       places
 
-  pub back_sound : (by : Tag) (kind : Kind) (cookie : ℕ) (log : List (ℕ × Stamp)) → IsSound r → log ≡ r.log ++ direct_stamps by op back.block kind (length back.parts.items) done
-      → IsSound (range_view r.geometry r.mode r.first (on_each (came_back op done.failed back.parts.items) 0 (back.block - r.first) (length back.parts.items) r.cells) log cookie r.errors r.tickets r.seat r.space)
+  pub back_sound : (by : Tag) (kind : Kind) (cookie : ℕ) (log : List (ℕ × Stamp)) → IsSound r → log ≡ r.log ++ direct_stamps by op back.block kind (length back.parts) done
+      → IsSound (range_view r.geometry r.mode r.first (on_each (came_back op done.failed back.parts) 0 (back.block - r.first) (length back.parts) r.cells) log cookie r.errors r.tickets r.seat r.space)
   back_sound by kind cookie log s same =
-      let n : ℕ = length back.parts.items in
+      let n : ℕ = length back.parts in
       let low : ℕ = back.block - r.first in
       let run = back_run in
-      let f : ℕ → Cell → Cell = came_back op done.failed back.parts.items in
+      let f : ℕ → Cell → Cell = came_back op done.failed back.parts in
       sound_next r (on_each f 0 low n r.cells) log (direct_stamps by op back.block kind n done) cookie r.errors r.tickets r.seat r.space s (length-on_each f 0 low n r.cells)
       (back_places done.failed s.places) same
       (back_stamps-range r.first (length r.cells) by op back.block kind n done run.low run.high run.landed)
-      (back_space r.geometry.block_size op done.failed back.parts.items low n r.cells r.space s.space)
+      (back_space r.geometry.block_size op done.failed back.parts low n r.cells r.space s.space)

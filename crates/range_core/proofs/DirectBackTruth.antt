@@ -1,11 +1,12 @@
 -- The range truth after a turn that brings blocks home from a caller's own pages.
-use Rattle.std.proofs.Common.{◌≡◌, ℕ, zero, suc, ◌+◌, ◌-◌, ◌*◌, ◌<◌, ◌≤◌, Bool, true, false, ◌&&◌, if◌then◌else◌, Option, Some, None, List, [], ◌∷◌, ◌++◌, length, map, get_or, set, refl, sym, ◌∙◌, ap, subst, arith, ⊎_elim}
+use Rattle.std.proofs.Common.{◌≡◌, ℕ, zero, suc, ◌+◌, ◌-◌, ◌*◌, ◌<◌, ◌≤◌, Bool, true, false, ◌&&◌, if◌then◌else◌, Option, Some, None, List, [], ◌∷◌, ◌++◌, length, map, get_or, set, All, refl, sym, ◌∙◌, ap, subst, arith, ⊎_elim}
 use Rattle.std.specs.Prelude.{max, nat_lt, slice_get}
 use Rattle.std.proofs.lemmas.Bool.{lt-ltb}
 use Rattle.std.proofs.lemmas.Option.{slice_get-get_or}
 use mathlib.Core.Option.{some}
 use lib.ListN.{get_elem?}
-use Rattle.arrayvec.specs.ArrayVec.{ArrayVec}
+use Rattle.iob_base.specs.Parting.{IsBare, pages_of}
+use Rattle.iob_base.specs.declared.part.Part.{Part}
 use Rattle.iob_base.specs.declared.TheConstants.{WORN}
 use Rattle.iob_base.specs.declared.sector.Page.{Page}
 use Rattle.iob_base.specs.declared.stamp.Mode.TheVariants.{Dax}
@@ -13,7 +14,6 @@ use Rattle.iob_base.specs.declared.stamp.Op.{Op}
 use Rattle.iob_base.specs.declared.stamp.Op.TheVariants.{Read, Write}
 use Rattle.iob_base.specs.declared.stamp.Tag.{Tag}
 use Rattle.fault_device.specs.declared.lane.Done.{Done}
-use Rattle.iob_base.specs.declared.part.Part.{Part}
 use Rattle.io_model.specs.Contents.{Content}
 use Rattle.io_model.specs.declared.file.Kind.{Kind}
 use Rattle.io_model.specs.declared.file.Kind.TheVariants.{Hole}
@@ -69,7 +69,7 @@ module _ (opening now : RangeView) (history : List Entry) (stakes : List RangeSt
   h = may.claim
 
   abbrev n : ℕ
-  n = length back.parts.items
+  n = length back.parts
 
   abbrev comes : ComesBack now claims (Direct by op) op back done
   comes = record { claim = h; lent_for = may.lent_for; is_return = may.is_return; out = are_out opening now history stakes number claims made h t here may.is_return.held may.lies }
@@ -77,14 +77,14 @@ module _ (opening now : RangeView) (history : List Entry) (stakes : List RangeSt
   run : IsBackRun now back done
   run = back_run now claims (Direct by op) op back done comes
 
-  many : n ≡ length h.lent.value.parts.items
-  many = ap length may.is_return.parts ∙ length-after op done.landed h.lent.value.parts.items
+  many : n ≡ length h.lent.value.parts
+  many = ap length may.is_return.parts ∙ length-after op done.landed h.lent.value.parts
 
   block_is : back.block ≡ h.lent.value.block
   block_is = may.is_return.block
 
   names_it : (b : ℕ) → names_block b (Some h) ≡ in_run back.block n b
-  names_it b = ap (λ m. in_run m (length h.lent.value.parts.items) b) (sym block_is) ∙ ap (λ m. in_run back.block m b) (sym many)
+  names_it b = ap (λ m. in_run m (length h.lent.value.parts) b) (sym block_is) ∙ ap (λ m. in_run back.block m b) (sym many)
 
   -- each block of the claim is out on it
   pub out_at : (k : ℕ) (was : Cell) (content : Content) → k < n → IsTrueAt opening.geometry.block_size (back.block + k) was content stakes → IsDirectlyOut opening.geometry.block_size k was content op by h
@@ -110,7 +110,7 @@ module _ (opening now : RangeView) (history : List Entry) (stakes : List RangeSt
   kind_is : kind ≡ h.kind
   kind_is = ap kind_held may.is_return.held
 
-  pages_are : pages_held claims.held ≡ map (λ p. p.page) h.lent.value.parts.items
+  pages_are : pages_held claims.held ≡ map (λ p. p.page) h.lent.value.parts
   pages_are = ap pages_held may.is_return.held
 
   length-page_bytes : (parts : List Part) → length (map (λ (p : Page). p.bytes) (map (λ (p : Part). p.page) parts)) ≡ length parts
@@ -123,7 +123,7 @@ module _ (opening now : RangeView) (history : List Entry) (stakes : List RangeSt
   bytes-at (suc k) (q ∷ parts) p e = bytes-at k parts p e
 
   bytes_many : length (map (λ (p : Page). p.bytes) (pages_held claims.held)) ≡ n
-  bytes_many = ap (λ l. length (map (λ (p : Page). p.bytes) l)) pages_are ∙ length-page_bytes h.lent.value.parts.items ∙ sym many
+  bytes_many = ap (λ l. length (map (λ (p : Page). p.bytes) l)) pages_are ∙ length-page_bytes h.lent.value.parts ∙ sym many
 
   -- what the k-th block has after the return agrees with its part
   agrees_at : (k : ℕ) (was : Cell) (content : Content) (l : k < n) (true_at : IsTrueAt opening.geometry.block_size (back.block + k) was content stakes)
@@ -132,7 +132,7 @@ module _ (opening now : RangeView) (history : List Entry) (stakes : List RangeSt
       let size : ℕ = opening.geometry.block_size in
       let out = out_at k was content l true_at in
       let there : slice_get (map (λ (p : Page). p.bytes) (pages_held claims.held)) k ≡ Some out.part.page.bytes =
-      ap (λ ps. slice_get (map (λ (p : Page). p.bytes) ps) k) pages_are ∙ bytes-at k h.lent.value.parts.items out.part out.part_is in
+      ap (λ ps. slice_get (map (λ (p : Page). p.bytes) ps) k) pages_are ∙ bytes-at k h.lent.value.parts out.part out.part_is in
       let A : Content → Type 0 = λ x. AgreesBack size op done k was.kind out.part content x in
       let mapped : is_mapped kind ≡ is_mapped was.kind = ap is_mapped kind_is ∙ sym (mapped-after h.kind k) ∙ ap is_mapped out.kind in
       let failed : done.failed ≡ nat_lt done.landed n = may.is_return.failed ∙ ap (λ m. nat_lt done.landed m) (sym many) in
@@ -155,20 +155,20 @@ module _ (opening now : RangeView) (history : List Entry) (stakes : List RangeSt
   at_now : (k : ℕ) (was : Cell) → slice_get now.cells (back.block - opening.first + k) ≡ Some was → slice_get now.cells (back.block - now.first + k) ≡ Some was
   at_now k was at = ap (λ m. slice_get now.cells (m + k)) (sym low_is) ∙ at
 
-  placed_at : (k : ℕ) (was : Cell) → k < n → slice_get now.cells (back.block - now.first + k) ≡ Some was → IsPlaced opening.geometry.block_size was → IsPlaced opening.geometry.block_size (came_back op done.failed (parts_after op done.landed h.lent.value.parts.items) k was)
+  placed_at : (k : ℕ) (was : Cell) → k < n → slice_get now.cells (back.block - now.first + k) ≡ Some was → IsPlaced opening.geometry.block_size was → IsPlaced opening.geometry.block_size (came_back op done.failed (parts_after op done.landed h.lent.value.parts) k was)
   placed_at k was l at placed =
       let S : ℕ → Type 0 = λ size. IsOutOn size h k was in
       let out : IsOutOn opening.geometry.block_size h k was = subst S (ap (λ g. g.block_size) t.same_run.geometry) (back_out now claims (Direct by op) op back done comes k was l at) in
       back_placed opening.geometry.block_size op done.failed done.landed k h was out placed
 
-  back_changes : ChangesRun opening now next history entry stakes number claims (released claims) made (came_back op done.failed back.parts.items) back.block n
+  back_changes : ChangesRun opening now next history entry stakes number claims (released claims) made (came_back op done.failed back.parts) back.block n
   back_changes =
       let size : ℕ = opening.geometry.block_size in
       let begins = run.low in
       let first = t.same_run.first in
       record {
         low = omega arith;
-        cells = ap (λ l. on_each (came_back op done.failed back.parts.items) 0 l n now.cells) (sym low_is);
+        cells = ap (λ l. on_each (came_back op done.failed back.parts) 0 l n now.cells) (sym low_is);
         outside = λ b outside. record {
           content = λ x. content_outside op back.block kind (map (λ p. p.bytes) (pages_held claims.held)) done b x (out_of_run back.block n b _ bytes_many outside);
           state = λ s. ap (λ m. if in_run back.block m b then directly_back op done.failed s else s) bytes_many ∙ ap (λ u. if u then directly_back op done.failed s else s) outside;
@@ -181,10 +181,10 @@ module _ (opening now : RangeView) (history : List Entry) (stakes : List RangeSt
             ap (λ m. in_run back.block m b) bytes_many ∙ in_run-true back.block n b (omega arith) (omega arith) in
             let named : names_block b (Some h) ≡ true = names_it b ∙ in_run-true back.block n b (omega arith) (omega arith) in
             let T : List Part → Type 0 = λ ps. IsTrueAt size b (came_back op done.failed ps k was) (content_back op back.block kind (map (λ p. p.bytes) (pages_held claims.held)) done b content) others in
-            let parts : back.parts.items ≡ parts_after op done.landed h.lent.value.parts.items = may.is_return.parts in
+            let parts : back.parts ≡ parts_after op done.landed h.lent.value.parts = may.is_return.parts in
             record {
               state =
-                  back_state op done.failed back.parts.items k (part_after op done.landed k out.part) was (ap (λ ps. slice_get ps k) parts ∙ after-at op done.landed k h.lent.value.parts.items out.part out.part_is)
+                  back_state op done.failed back.parts k (part_after op done.landed k out.part) was (ap (λ ps. slice_get ps k) parts ∙ after-at op done.landed k h.lent.value.parts out.part out.part_is)
                   ∙ sym (ap (λ u. if u then directly_back op done.failed (state_of was) else state_of was) inside);
               holds = subst T (sym parts)
                   (back_true size b k was content _ op by done h stakes others claims (released claims) seat_changes may.is_return.held refl named out (agrees_at k was content l true_at)
@@ -212,12 +212,12 @@ module _ (opening now : RangeView) (history : List Entry) (stakes : List RangeSt
   within : back.block - now.first + n ≤ length now.cells
   within = let begins = run.low in let ends = run.high in omega arith
 
-  part_there : (k : ℕ) (was : Cell) (l : k < n) (at : slice_get now.cells (back.block - now.first + k) ≡ Some was) → slice_get back.parts.items k ≡ Some (part_after op done.landed k (out_now k was l at).part)
-  part_there k was l at = ap (λ ps. slice_get ps k) may.is_return.parts ∙ after-at op done.landed k h.lent.value.parts.items (out_now k was l at).part (out_now k was l at).part_is
+  part_there : (k : ℕ) (was : Cell) (l : k < n) (at : slice_get now.cells (back.block - now.first + k) ≡ Some was) → slice_get back.parts k ≡ Some (part_after op done.landed k (out_now k was l at).part)
+  part_there k was l at = ap (λ ps. slice_get ps k) may.is_return.parts ∙ after-at op done.landed k h.lent.value.parts (out_now k was l at).part (out_now k was l at).part_is
 
   headroom : max next.cookie WORN + total pending next.cells ≤ WORN + 65536
   headroom =
-      let f : ℕ → Cell → Cell = came_back op done.failed back.parts.items in
+      let f : ℕ → Cell → Cell = came_back op done.failed back.parts in
       let lost : ℕ = lost_by op (is_unwritten kind) in
       let moves = total-moved f pending lost 0 0 (back.block - now.first) n now.cells within
       (λ j x l at.
@@ -225,7 +225,7 @@ module _ (opening now : RangeView) (history : List Entry) (stakes : List RangeSt
       let z : 0 + j ≡ j = omega arith in
       let P : Bool → Type 0 = λ u. pending (f j x) + lost_by op u ≡ pending x + 0 in
       let J : ℕ → Type 0 = λ m. pending (f m x) + lost ≡ pending x + 0 in
-      subst J (sym z) (subst P (unwritten_at j x l at) (back_pending op by done.failed back.parts.items j out.ticket _ x (part_there j x l at) out.away out.space))) in
+      subst J (sym z) (subst P (unwritten_at j x l at) (back_pending op by done.failed back.parts j out.ticket _ x (part_there j x l at) out.away out.space))) in
       let rise = rise-within op done.failed (is_unwritten kind) in
       let room = t.cookie_has_headroom in
       let many_lost = at_least n lost run.some in
@@ -237,11 +237,11 @@ module _ (opening now : RangeView) (history : List Entry) (stakes : List RangeSt
 
   kinds_stay : next.cookie ≡ now.cookie → kinds_of next.cells ≡ kinds_of now.cells
   kinds_stay same =
-      map-on_each-at (came_back op done.failed back.parts.items) (λ (x : Cell). x.kind) 0 (back.block - now.first) n now.cells within
+      map-on_each-at (came_back op done.failed back.parts) (λ (x : Cell). x.kind) 0 (back.block - now.first) n now.cells within
       (λ j x l at.
       let z : 0 + j ≡ j = omega arith in
-      let K : ℕ → Type 0 = λ m. ◌≡◌ {A = Kind} (came_back op done.failed back.parts.items m x).kind x.kind in
-      subst K (sym z) (back-kind op done.failed back.parts.items j x ∙ kind-stays op done.failed x.kind (out_now j x l at).space (ap (λ u. u && is_write_back op done.failed) (unwritten_at j x l at) ∙ none (is_unwritten kind && is_write_back op done.failed) (omega arith))))
+      let K : ℕ → Type 0 = λ m. ◌≡◌ {A = Kind} (came_back op done.failed back.parts m x).kind x.kind in
+      subst K (sym z) (back-kind op done.failed back.parts j x ∙ kind-stays op done.failed x.kind (out_now j x l at).space (ap (λ u. u && is_write_back op done.failed) (unwritten_at j x l at) ∙ none (is_unwritten kind && is_write_back op done.failed) (omega arith))))
     where
       none : (u : Bool) → one_where u ≡ 0 → u ≡ false
       none true e = absurd (omega arith)
@@ -259,7 +259,7 @@ module _ (opening now : RangeView) (history : List Entry) (stakes : List RangeSt
     log = ap (λ m. now.log ++ direct_stamps by op back.block kind m done) (sym bytes_many);
     headroom = headroom;
     uncached = λ d. absurd (cached d);
-    space = back_space opening.geometry.block_size op done.failed back.parts.items (back.block - now.first) n now.cells now.space t.pool_claims_sectors;
+    space = back_space opening.geometry.block_size op done.failed back.parts (back.block - now.first) n now.cells now.space t.pool_claims_sectors;
     found = found_on now back.block n (in_run back.block (length (map (λ (p : Page). p.bytes) (pages_held claims.held)))) (λ b s. is_out back.ticket (Direct by op) s.away && is_kind (kind_after kind (b - back.block)) s.kind) run.low
         (λ b e. ap (λ m. in_run back.block m b) bytes_many ∙ e)
         (λ k c l at.
@@ -283,7 +283,7 @@ module _ (opening now : RangeView) (history : List Entry) (stakes : List RangeSt
   -- the truth holds after the return
   pub back_truth : RangeTruth opening next (history ++ entry ∷ []) others
   back_truth =
-      changed_truth opening now next history entry stakes number claims (released claims) made (came_back op done.failed back.parts.items) back.block n t here back_changes back_counts
+      changed_truth opening now next history entry stakes number claims (released claims) made (came_back op done.failed back.parts) back.block n t here back_changes back_counts
       (samples_next now next history entry refl (omega arith) kinds_stay t.samples_give_extents tt) (record { caller = refl; spare = refl; main = refl }) refl
 
   blank : Cell
@@ -293,7 +293,7 @@ module _ (opening now : RangeView) (history : List Entry) (stakes : List RangeSt
   there_at k l = let ends = within in slice_get-get_or now.cells (back.block - now.first + k) blank (omega arith)
 
   -- the pages of mapped blocks that landed have the contents of these blocks
-  pub back_reads : ReadsContents opening history op kind back.block done.landed (map (λ p. p.page) back.parts.items)
+  pub back_reads : ReadsContents opening history op kind back.block done.landed (map (λ p. p.page) back.parts)
   back_reads = at op refl
     where
       page-at : (k : ℕ) (parts : List Part) (q : Part) (p : Page) → slice_get parts k ≡ Some q → slice_get (map (λ (x : Part). x.page) parts) k ≡ Some p → p ≡ q.page
@@ -301,7 +301,7 @@ module _ (opening now : RangeView) (history : List Entry) (stakes : List RangeSt
       page-at zero (x ∷ parts) q p e f = let is : x ≡ q = cc in let here : x.page ≡ p = cc in sym here ∙ ap (λ (y : Part). y.page) is
       page-at (suc k) (x ∷ parts) q p e f = page-at k parts q p e f
 
-      at : (o : Op) → op ≡ o → ReadsContents opening history o kind back.block done.landed (map (λ p. p.page) back.parts.items)
+      at : (o : Op) → op ≡ o → ReadsContents opening history o kind back.block done.landed (map (λ p. p.page) back.parts)
       at Write e = tt
       at Read e = λ k p mapped landed there.
           let few = run.landed in
@@ -309,7 +309,7 @@ module _ (opening now : RangeView) (history : List Entry) (stakes : List RangeSt
           let was : Cell = get_or now.cells (back.block - now.first + k) blank in
           let out = out_now k was l (there_at k l) in
           let content : Content = content_at opening history (back.block - opening.first + k) in
-          let is : p ≡ (part_after op done.landed k out.part).page = page-at k back.parts.items (part_after op done.landed k out.part) p (part_there k was l (there_at k l)) there in
+          let is : p ≡ (part_after op done.landed k out.part).page = page-at k back.parts (part_after op done.landed k out.part) p (part_there k was l (there_at k l)) there in
           let moved_is : (part_after op done.landed k out.part).page.bytes ≡ out.part.sector.bytes =
           ap (λ o. (part_after o done.landed k out.part).page.bytes) e ∙ ap (λ u. (if u then moved Read out.part else out.part).page.bytes) (lt-ltb k done.landed landed) in
           let L : Bool → Type 0 = λ u. IsLentContent opening.geometry.block_size u content out.part in
@@ -320,15 +320,15 @@ module _ (opening now : RangeView) (history : List Entry) (stakes : List RangeSt
   pub back_cold : (k : ℕ) (c : Cell) → k < n → slice_get next.cells (back.block - next.first + k) ≡ Some c → IsCold c
   back_cold k c l at =
       let low : ℕ = back.block - now.first in
-      let f : ℕ → Cell → Cell = came_back op done.failed back.parts.items in
+      let f : ℕ → Cell → Cell = came_back op done.failed back.parts in
       let was : Cell = get_or now.cells (low + k) blank in
       let there = there_at k l in
       let out = out_now k was l there in
       let clean = pageless_clean opening.geometry.block_size (back.block + k) was _ stakes (true_now k was there) out.pageless in
       ⊎_elim
       (λ (e : IsInRun f 0 low n (low + k) was c). record {
-        page = ap (λ (x : Cell). x.page) e.is ∙ kept_page op done.failed (slice_get back.parts.items (0 + (low + k - low))) was ∙ out.pageless;
-        clean = ap (λ (x : Cell). x.dirty) e.is ∙ kept_dirty op done.failed (slice_get back.parts.items (0 + (low + k - low))) was ∙ clean;
+        page = ap (λ (x : Cell). x.page) e.is ∙ kept_page op done.failed (slice_get back.parts (0 + (low + k - low))) was ∙ out.pageless;
+        clean = ap (λ (x : Cell). x.dirty) e.is ∙ kept_dirty op done.failed (slice_get back.parts (0 + (low + k - low))) was ∙ clean;
       })
       (λ (e : IsOutOfRun low n (low + k) was c). absurd (⊎_elim (λ (x : low + k < low). let z : ⊥ = absurd (omega arith) in z) (λ (x : low + n ≤ low + k). let z : ⊥ = absurd (omega arith) in z) e.out))
       (on_each-at f 0 low n (low + k) now.cells was c there at)
@@ -354,11 +354,12 @@ module _ (opening now : RangeView) (history : List Entry) (stakes : List RangeSt
       kept_dirty Write false part x = home_dirty part x
 
 -- what the event says of what it leaves and answers
-pub record DirectReturned (now next : RangeView) (claims left : ClaimsView) (by : Tag) (op : Op) (back : Lent) (done : Done) (pages : ArrayVec Page) : Type 0 where
+pub record DirectReturned (now next : RangeView) (claims left : ClaimsView) (by : Tag) (op : Op) (back : Lent) (done : Done) (pages : List Part) : Type 0 where
   pub state : next ≡ after_direct_back now by op (kind_held claims.held) back done
   pub claims_are : left ≡ released claims
-  pub pages_are : pages.items ≡ map (λ p. p.page) back.parts.items
-  pub kept : KeepsPages op (pages_held claims.held) pages.items
+  pub pages_are : pages_of pages ≡ map (λ p. p.page) back.parts
+  pub bare : All IsBare pages
+  pub kept : KeepsPages op (pages_held claims.held) (pages_of pages)
 
 module _ (opening now : RangeView) (history : List Entry) (stakes : List RangeStake) (number : ℕ) (claims : ClaimsView) (made : List Entry) (change : EndDirect) (back : Lent)
     (t : RangeTruth opening now history stakes) (here : Works stakes number claims made) (ready : ReadyToReturn change opening claims) (given : change.back ≡ Some back) where
@@ -377,7 +378,7 @@ module _ (opening now : RangeView) (history : List Entry) (stakes : List RangeSt
   back_is : back_in change ≡ back
   back_is = ap (λ o. back_in (record change { back = o })) given
 
-  pub turned_back : (next : RangeView) (left : ClaimsView) (later : EndDirect) (pages : ArrayVec Page) → later ≡ record change { back = None } → DirectReturned now next claims left change.by change.op back change.done pages
+  pub turned_back : (next : RangeView) (left : ClaimsView) (later : EndDirect) (pages : List Part) → later ≡ record change { back = None } → DirectReturned now next claims left change.by change.op back change.done pages
       → Advanced RangeTruth (λ opening history entry. ReturnedDirectly change later opening history now next claims left pages entry) opening next history stakes number left made
   turned_back next left later pages used r =
       let kind : Kind = kind_held claims.held in
@@ -388,10 +389,10 @@ module _ (opening now : RangeView) (history : List Entry) (stakes : List RangeSt
       let N : RangeView → Type 0 = λ v. RangeTruth opening v (history ++ entry_of back ∷ []) (set stakes number (Some left, made ++ entry_of back ∷ [])) in
       let L : ClaimsView → Type 0 = λ c. RangeTruth opening (after_direct_back now change.by change.op kind back change.done) (history ++ entry_of back ∷ []) (set stakes number (Some c, made ++ entry_of back ∷ [])) in
       let R : List Page → Type 0 = λ ps. ReadsContents opening history change.op kind back.block change.done.landed ps in
-      let S : Lent → Type 0 = λ l. ReadsContents opening history change.op kind l.block change.done.landed pages.items in
-      let C : RangeView → Type 0 = λ v. (k : ℕ) (c : Cell) → k < length back.parts.items → slice_get v.cells (back.block - v.first + k) ≡ Some c → IsCold c in
-      let many : length pages.items ≡ length back.parts.items = ap length r.pages_are ∙ length_pages back.parts.items in
-      let D : Lent → Type 0 = λ l. (k : ℕ) (c : Cell) → k < length pages.items → slice_get next.cells (l.block - next.first + k) ≡ Some c → IsCold c in
+      let S : Lent → Type 0 = λ l. ReadsContents opening history change.op kind l.block change.done.landed (pages_of pages) in
+      let C : RangeView → Type 0 = λ v. (k : ℕ) (c : Cell) → k < length back.parts → slice_get v.cells (back.block - v.first + k) ≡ Some c → IsCold c in
+      let many : length (pages_of pages) ≡ length back.parts = ap length r.pages_are ∙ length_pages back.parts in
+      let D : Lent → Type 0 = λ l. (k : ℕ) (c : Cell) → k < length (pages_of pages) → slice_get next.cells (l.block - next.first + k) ≡ Some c → IsCold c in
       let cold : C next = subst C (sym r.state) (back_cold opening now history stakes number claims made change.by change.op back change.done t here may_return) in
       record {
         entry = e;
@@ -400,7 +401,8 @@ module _ (opening now : RangeView) (history : List Entry) (stakes : List RangeSt
           value = r.state ∙ ap (λ l. after_direct_back now change.by change.op kind l change.done) (sym back_is);
           cold = subst D (sym back_is) (λ k c l at. cold k c (omega arith) at);
           claims_are = r.claims_are;
-          pages_are = r.pages_are ∙ ap (λ (l : Lent). map (λ (p : Part). p.page) l.parts.items) (sym back_is);
+          pages_are = r.pages_are ∙ ap (λ (l : Lent). map (λ (p : Part). p.page) l.parts) (sym back_is);
+          bare = r.bare;
           kept = r.kept;
           reads = subst S (sym back_is) (subst R (sym r.pages_are) (back_reads opening now history stakes number claims made change.by change.op back change.done t here may_return));
           entry_is = refl;

@@ -185,7 +185,7 @@ pub record ClaimsBlock (by : Tag) (op : Op) (ticket b : ℕ) (was : Cell) (p : P
   pub ticket_is : h.lent.value.ticket ≡ ticket
   pub lender_is : h.lender ≡ Direct by op
   pub kind_is : kind_after h.kind (b - h.lent.value.block) ≡ was.kind
-  pub part_is : slice_get h.lent.value.parts.items (b - h.lent.value.block) ≡ Some (part_of was p)
+  pub part_is : slice_get h.lent.value.parts (b - h.lent.value.block) ≡ Some (part_of was p)
 
 -- a block that is lent for a caller's own page is true of the claim on it
 pub lent_true : (size b : ℕ) (was : Cell) (content : Content) (by : Tag) (op : Op) (ticket : ℕ) (p : Page) (h : Held) (stakes others : List RangeStake) (claims left : ClaimsView) → ChangesSeat stakes others claims left

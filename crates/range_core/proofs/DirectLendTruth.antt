@@ -4,7 +4,9 @@ use Rattle.std.specs.Prelude.{IfErr, IfOk, OnErr, OnOk, Result, Ok, Err, slice_g
 use Rattle.std.proofs.lemmas.Option.{slice_get-get_or, slice_get_within}
 use mathlib.Core.Option.{some}
 use lib.ListN.{get_elem?}
-use Rattle.arrayvec.specs.ArrayVec.{ArrayVec}
+use Rattle.iob_base.specs.Parting.{IsBare, bare_parts, pages_of}
+use Rattle.iob_base.proofs.PartLemmas.{pages_of-bare}
+use Rattle.iob_base.specs.declared.part.Part.{Part}
 use Rattle.iob_base.specs.declared.sector.Page.{Page}
 use Rattle.iob_base.specs.declared.stamp.Op.{Op}
 use Rattle.iob_base.specs.declared.stamp.Op.TheVariants.{Read, Write}
@@ -67,9 +69,16 @@ unmapped : (op : Op) (k : Kind) → goes_out op k ≡ false → is_mapped k ≡ 
 unmapped Read k e = e
 unmapped Write k e = absurd (cc)
 
+-- and its list has no blocks
+pub bare_ready : (opening : RangeView) (seen : List Entry) (claims : ClaimsView) (change : LendPages) (pages : List Part) → (ready : ReadyToLend change opening seen claims) → change.pages ≡ Some pages → All IsBare pages
+bare_ready opening seen claims change pages ready is =
+    let same : ready.pages ≡ pages = cc (ready.pages_are, is) in
+    let B : List Part → Type 0 = All IsBare in
+    subst B same ready.bare
+
 -- a turn that is ready may make the loan
-pub can_lend : (opening now : RangeView) (history seen : List Entry) (stakes : List RangeStake) (claims : ClaimsView) (change : LendPages) (pages : ArrayVec Page) → RangeTruth opening now history stakes → Begins seen history → (ready : ReadyToLend change opening seen claims)
-    → change.pages ≡ Some pages → CanLendDirect now claims change.seen change.op change.block pages.items
+pub can_lend : (opening now : RangeView) (history seen : List Entry) (stakes : List RangeStake) (claims : ClaimsView) (change : LendPages) (pages : List Part) → RangeTruth opening now history stakes → Begins seen history → (ready : ReadyToLend change opening seen claims)
+    → change.pages ≡ Some pages → CanLendDirect now claims change.seen change.op change.block (pages_of pages)
 can_lend opening now history seen stakes claims change pages t begins ready is =
     let same : ready.pages ≡ pages = cc (ready.pages_are, is) in
     let first = t.same_run.first in
@@ -77,8 +86,8 @@ can_lend opening now history seen stakes claims change pages t begins ready is =
     let lies = ready.lies in
     let low = lies.low in
     let high = lies.high in
-    let C : ArrayVec Page → Type 0 = λ ps. CanLendDirect now claims change.seen change.op change.block ps.items in
-    let W : ℕ → Type 0 = λ size. All (IsWholePage size) ready.pages.items in
+    let C : List Part → Type 0 = λ ps. CanLendDirect now claims change.seen change.op change.block (pages_of ps) in
+    let W : ℕ → Type 0 = λ size. All (IsWholePage size) (pages_of ready.pages) in
     subst C same (record {
       cached = t.same_run.mode ∙ ready.cached;
       lies = record { low = omega arith; some = lies.some; high = omega arith };
@@ -123,12 +132,12 @@ module _ (opening now : RangeView) (history : List Entry) (stakes : List RangeSt
       let sum : block - seen.extent.block + 0 + k ≡ block - seen.extent.block + k = omega arith in
       record {
         named =
-            ap (λ (x : Lent). in_run x.block (length x.parts.items) (block + k)) hold.lent_is ∙ ap (λ m. in_run block m (block + k)) many
+            ap (λ (x : Lent). in_run x.block (length x.parts) (block + k)) hold.lent_is ∙ ap (λ m. in_run block m (block + k)) many
             ∙ in_run-true block n (block + k) (omega arith) (omega arith);
         ticket_is = ap (λ (x : Lent). x.ticket) hold.lent_is;
         lender_is = hold.lender_is;
         kind_is = ap (kind_after h.kind) place ∙ ap (λ q. kind_after q k) kind ∙ kind_after-plus seen.extent.kind (block - seen.extent.block + 0) k ∙ ap (kind_after seen.extent.kind) sum ∙ sym (free.each k was l at).kind;
-        part_is = ap (slice_get h.lent.value.parts.items) place ∙ ap (λ (x : Lent). slice_get x.parts.items k) hold.lent_is
+        part_is = ap (slice_get h.lent.value.parts) place ∙ ap (λ (x : Lent). slice_get x.parts k) hold.lent_is
             ∙ parts_of-at low k now.cells pages was page at (slice_get-get_or pages k (record { number = 0; bytes = [] }) l);
       }
 
@@ -149,7 +158,7 @@ module _ (opening now : RangeView) (history : List Entry) (stakes : List RangeSt
       let h : Held = hold.claim in
       let held : left.held ≡ Some h = ap (λ (c : ClaimsView). c.held) hold.left_is in
       let change : ChangesSeat stakes others claims left = record { number = number; made = made; now = made ++ lent_entry ∷ []; here = here.here; is = refl } in
-      let length_is : length h.lent.value.parts.items ≡ n = ap (λ (x : Lent). length x.parts.items) hold.lent_is ∙ length-parts_of low now.cells pages (omega arith) in
+      let length_is : length h.lent.value.parts ≡ n = ap (λ (x : Lent). length x.parts) hold.lent_is ∙ length-parts_of low now.cells pages (omega arith) in
       let block_is : h.lent.value.block ≡ block = ap (λ (x : Lent). x.block) hold.lent_is in
       let places : block - opening.first ≡ low = omega arith in
       let whole : All (IsWholePage size) pages = let W : ℕ → Type 0 = λ s. All (IsWholePage s) pages in subst W (ap (λ g. g.block_size) t.same_run.geometry) can.whole in
@@ -252,26 +261,26 @@ module _ (opening now : RangeView) (history : List Entry) (stakes : List RangeSt
       zeroed_at (suc k) (q ∷ pages) p e = zeroed_at k pages p e
 
 -- what the event says of its answer, and of what it leaves
-pub record DirectAnswered (now next : RangeView) (claims left : ClaimsView) (by : Tag) (seen : Sample) (op : Op) (block : ℕ) (pages : ArrayVec Page) (result : Result Answer DirectRefused) : Type 0 where
-  pub made : OnOk result (lend_direct_refusal now seen op block (length pages.items) ≡ None)
-  pub state : OnOk result (next ≡ after_lend_direct now by seen op block (length pages.items))
-  pub answer : IfOk result (λ a. a ≡ direct_answer now seen op block pages.items)
+pub record DirectAnswered (now next : RangeView) (claims left : ClaimsView) (by : Tag) (seen : Sample) (op : Op) (block : ℕ) (pages : List Part) (result : Result Answer DirectRefused) : Type 0 where
+  pub made : OnOk result (lend_direct_refusal now seen op block (length (pages_of pages)) ≡ None)
+  pub state : OnOk result (next ≡ after_lend_direct now by seen op block (length (pages_of pages)))
+  pub answer : IfOk result (λ a. a ≡ direct_answer now seen op block (pages_of pages))
   pub ready : IfOk result (λ a. GoesOut op (first_kind (cells_from now block)) a)
   pub claims_are : IfOk result (λ a. ClaimsAnswer claims left by op (first_kind (cells_from now block)) a)
-  pub refused : IfErr result (λ e. e.fault ≡ unwrap_or (lend_direct_refusal now seen op block (length pages.items)) NoMemory)
+  pub refused : IfErr result (λ e. e.fault ≡ unwrap_or (lend_direct_refusal now seen op block (length (pages_of pages))) NoMemory)
   pub pages_back : IfErr result (λ e. e.pages ≡ pages)
   pub unchanged : OnErr result (next ≡ now)
   pub unclaimed : OnErr result (left ≡ claims)
 
-module _ (opening now next : RangeView) (history seen : List Entry) (stakes : List RangeStake) (number : ℕ) (claims left : ClaimsView) (made : List Entry) (change later : LendPages) (pages : ArrayVec Page)
+module _ (opening now next : RangeView) (history seen : List Entry) (stakes : List RangeStake) (number : ℕ) (claims left : ClaimsView) (made : List Entry) (change later : LendPages) (pages : List Part)
     (t : RangeTruth opening now history stakes) (here : Works stakes number claims made) (begins : Begins seen history) (ready : ReadyToLend change opening seen claims) (given : change.pages ≡ Some pages) (used : later ≡ record change { pages = None }) where
   abbrev Turned : Result Answer DirectRefused → Type 0
   Turned result = Advanced RangeTruth (λ opening history entry. TurnedToLend change later opening history now next claims left result entry) opening next history stakes number left made
 
-  abbrev can : CanLendDirect now claims change.seen change.op change.block pages.items
+  abbrev can : CanLendDirect now claims change.seen change.op change.block (pages_of pages)
   can = can_lend opening now history seen stakes claims change pages t begins ready given
 
-  pages_are : pages_in change ≡ pages.items
+  pages_are : pages_in change ≡ (pages_of pages)
   pages_are = ap (λ o. pages_in (record change { pages = o })) given
 
   abbrev entry_of : List Page → Answer → Entry
@@ -302,8 +311,8 @@ module _ (opening now next : RangeView) (history seen : List Entry) (stakes : Li
 
   answered_turn : (answer : Answer) → DirectAnswered now next claims left change.by change.seen change.op change.block pages (Ok answer) → Turned (Ok answer)
   answered_turn answer a =
-      let n : ℕ = length pages.items in
-      let free : AreLendable now change.seen change.op change.block n = lendable now claims change.seen change.op change.block pages.items can a.made in
+      let n : ℕ = length (pages_of pages) in
+      let free : AreLendable now change.seen change.op change.block n = lendable now claims change.seen change.op change.block (pages_of pages) can a.made in
       let e : Entry = entry_of (pages_in change) answer in
       let lies : (After left next e) × ReadsZeros opening history change.block answer = at free (goes_out change.op change.seen.extent.kind) refl in
       record {
@@ -326,47 +335,48 @@ module _ (opening now next : RangeView) (history seen : List Entry) (stakes : Li
     where
       answer_lies : (u : Bool) → goes_out change.op change.seen.extent.kind ≡ u → AnswerLies opening answer
       answer_lies true out =
-          let loan : Answer = LentOut (direct_loan now change.block pages.items) in
-          let is : answer ≡ loan = a.answer ∙ ap (λ u. if u then loan else Zeros (record { items = map zeroed pages.items })) out in
+          let loan : Answer = LentOut (direct_loan now change.block (pages_of pages)) in
+          let is : answer ≡ loan = a.answer ∙ ap (λ u. if u then loan else Zeros (bare_parts (map zeroed (pages_of pages)))) out in
           let L : Answer → Type 0 = λ x. AnswerLies opening x in
           let low = can.lies.low in
           let high = can.lies.high in
           let first = t.same_run.first in
-          subst L (sym is) (loan_lies opening now change.block now.tickets pages.items (direct_loan now change.block pages.items) t.same_run ready.lies.low can.lies.some (omega arith) refl)
+          subst L (sym is) (loan_lies opening now change.block now.tickets (pages_of pages) (direct_loan now change.block (pages_of pages)) t.same_run ready.lies.low can.lies.some (omega arith) refl)
       answer_lies false out =
-          let zeros_in : Answer = Zeros (record { items = map zeroed pages.items }) in
-          let is : answer ≡ zeros_in = a.answer ∙ ap (λ u. if u then LentOut (direct_loan now change.block pages.items) else zeros_in) out in
+          let zeros_in : Answer = Zeros (bare_parts (map zeroed (pages_of pages))) in
+          let is : answer ≡ zeros_in = a.answer ∙ ap (λ u. if u then LentOut (direct_loan now change.block (pages_of pages)) else zeros_in) out in
           let L : Answer → Type 0 = λ x. AnswerLies opening x in
           subst L (sym is) tt
 
-      at : AreLendable now change.seen change.op change.block (length pages.items) → (u : Bool) → goes_out change.op change.seen.extent.kind ≡ u → (After left next (entry_of (pages_in change) answer)) × ReadsZeros opening history change.block answer
+      at : AreLendable now change.seen change.op change.block (length (pages_of pages)) → (u : Bool) → goes_out change.op change.seen.extent.kind ≡ u → (After left next (entry_of (pages_in change) answer)) × ReadsZeros opening history change.block answer
       at free true out =
-          let n : ℕ = length pages.items in
-          let loan : Answer = LentOut (direct_loan now change.block pages.items) in
-          let is : answer ≡ loan = a.answer ∙ ap (λ u. if u then loan else Zeros (record { items = map zeroed pages.items })) out in
+          let n : ℕ = length (pages_of pages) in
+          let loan : Answer = LentOut (direct_loan now change.block (pages_of pages)) in
+          let is : answer ≡ loan = a.answer ∙ ap (λ u. if u then loan else Zeros (bare_parts (map zeroed (pages_of pages)))) out in
           let after : next ≡ direct_lent now change.by change.op change.block n = a.state ∙ ap (λ u. if u then direct_lent now change.by change.op change.block n else zeros_given now change.by change.block n) out in
           let H : Answer → Type 0 = λ x. ClaimsAnswer claims left change.by change.op (first_kind (cells_from now change.block)) x in
           let R : Answer → Type 0 = λ x. ReadsZeros opening history change.block x in
           let E : Entry → Type 0 = λ e. After left next e in
-          let N : RangeView → Type 0 = λ v. After left v (entry_of pages.items loan) in
-          let entries : entry_of (pages_in change) answer ≡ entry_of pages.items loan = ap (λ l. entry_of l answer) pages_are ∙ ap (entry_of pages.items) is in (
-            subst E (sym entries) (subst N (sym after) (lent_truth opening now history stakes number claims made change.by change.seen change.op change.block pages.items t here can free left out (subst H is a.claims_are))),
+          let N : RangeView → Type 0 = λ v. After left v (entry_of (pages_of pages) loan) in
+          let entries : entry_of (pages_in change) answer ≡ entry_of (pages_of pages) loan = ap (λ l. entry_of l answer) pages_are ∙ ap (entry_of (pages_of pages)) is in (
+            subst E (sym entries) (subst N (sym after) (lent_truth opening now history stakes number claims made change.by change.seen change.op change.block (pages_of pages) t here can free left out (subst H is a.claims_are))),
             subst R (sym is) tt,
           )
       at free false out =
-          let n : ℕ = length pages.items in
-          let zeros_in : Answer = Zeros (record { items = map zeroed pages.items }) in
-          let is : answer ≡ zeros_in = a.answer ∙ ap (λ u. if u then LentOut (direct_loan now change.block pages.items) else zeros_in) out in
+          let n : ℕ = length (pages_of pages) in
+          let zeros_in : Answer = Zeros (bare_parts (map zeroed (pages_of pages))) in
+          let is : answer ≡ zeros_in = a.answer ∙ ap (λ u. if u then LentOut (direct_loan now change.block (pages_of pages)) else zeros_in) out in
           let after : next ≡ zeros_given now change.by change.block n = a.state ∙ ap (λ u. if u then direct_lent now change.by change.op change.block n else zeros_given now change.by change.block n) out in
           let H : Answer → Type 0 = λ x. ClaimsAnswer claims left change.by change.op (first_kind (cells_from now change.block)) x in
           let R : Answer → Type 0 = λ x. ReadsZeros opening history change.block x in
           let E : Entry → Type 0 = λ e. After left next e in
-          let N : RangeView → Type 0 = λ v. After left v (entry_of pages.items zeros_in) in
-          let L : ClaimsView → Type 0 = λ c. After c (zeros_given now change.by change.block n) (entry_of pages.items zeros_in) in
-          let entries : entry_of (pages_in change) answer ≡ entry_of pages.items zeros_in = ap (λ l. entry_of l answer) pages_are ∙ ap (entry_of pages.items) is in
+          let N : RangeView → Type 0 = λ v. After left v (entry_of (pages_of pages) zeros_in) in
+          let L : ClaimsView → Type 0 = λ c. After c (zeros_given now change.by change.block n) (entry_of (pages_of pages) zeros_in) in
+          let entries : entry_of (pages_in change) answer ≡ entry_of (pages_of pages) zeros_in = ap (λ l. entry_of l answer) pages_are ∙ ap (entry_of (pages_of pages)) is in
+          let Z : List Page → Type 0 = λ ps. (k : ℕ) (p : Page) → slice_get ps k ≡ Some p → p.bytes ≡ content_at opening history (change.block - opening.first + k) in
           let same : left ≡ claims = subst H is a.claims_are in (
-            subst E (sym entries) (subst N (sym after) (subst L (sym same) (zeros_truth opening now history stakes number claims made change.by change.seen change.op change.block pages.items t here can free out))),
-            subst R (sym is) (zeros_read opening now history stakes number claims made change.by change.seen change.op change.block pages.items t here can free out),
+            subst E (sym entries) (subst N (sym after) (subst L (sym same) (zeros_truth opening now history stakes number claims made change.by change.seen change.op change.block (pages_of pages) t here can free out))),
+            subst R (sym is) (subst Z (sym (pages_of-bare (map zeroed (pages_of pages)))) (zeros_read opening now history stakes number claims made change.by change.seen change.op change.block (pages_of pages) t here can free out)),
           )
 
   pub turned_to_lend : (result : Result Answer DirectRefused) → DirectAnswered now next claims left change.by change.seen change.op change.block pages result → Turned result

@@ -112,7 +112,7 @@ pub record ColdClauses (now next : RangeView) (claims left : ClaimsView) (change
   pub free : OnErr result (left ≡ claims)
   pub state : OnOk result (next ≡ lent_cold now change.block change.blocks)
   pub lent : IfOk result (λ lent. lent ≡ cold_loan now change.block change.blocks)
-  pub ready : IfOk result (λ lent. CanTransfer lent.parts.items)
+  pub ready : IfOk result (λ lent. CanTransfer lent.parts)
   pub claims_are : IfOk result (λ lent. TakesHold claims left lent Reading (first_kind (cells_from now change.block)))
 
 abbrev pub ColdDoes : RangeView → LendCold → LendCold → RangeView → RangeView → ClaimsView → ClaimsView → Result Lent EventFault → Entry → Type 0
@@ -141,7 +141,7 @@ cold_turn opening now next history stakes number claims left made change later (
     let many : length pages ≡ n = length-replicate n (zero_page now.geometry.block_size) in
     let some = c.run.some in
     let within = c.run.within in
-    let lies : LiesAt opening lent.block (length lent.parts.items) = loan_lies opening now change.block now.tickets pages lent t.same_run may.lies.low (omega arith) (omega arith) c.lent in
+    let lies : LiesAt opening lent.block (length lent.parts) = loan_lies opening now change.block now.tickets pages lent t.same_run may.lies.low (omega arith) (omega arith) c.lent in
     let N : RangeView → Type 0 = λ r. RangeTruth opening r (history ++ entry ∷ []) (set stakes number (Some left, made ++ entry ∷ [])) in
     record {
       entry = entry;

@@ -76,12 +76,12 @@ pub filled_holds : (opening now : RangeView) (history : List Entry) (stakes : Li
     → Works stakes number claims made → MayComeBack opening claims Reading Read back done → RangeTruth opening (filled now back done) (history ++ fill_entry claims back done ∷ []) (set stakes number (Some (released claims), made ++ fill_entry claims back done ∷ []))
 filled_holds opening now history stakes number claims made back done truth here may =
     let size : ℕ = opening.geometry.block_size in
-    let n : ℕ = length back.parts.items in
+    let n : ℕ = length back.parts in
     let entry : Entry = fill_entry claims back done in
-    let fills : ℕ → Cell → Cell = filled_of done.failed back.parts.items in
+    let fills : ℕ → Cell → Cell = filled_of done.failed back.parts in
     let seat = changes_seat stakes number claims (released claims) made entry here in
     let place = at_claim 0 claims may.claim Read back done may.is_return in
-    let kind : (j : ℕ) (c : Cell) → (fills j c).kind ≡ c.kind = λ j c. filled-kind done.failed back.parts.items j c in
+    let kind : (j : ℕ) (c : Cell) → (fills j c).kind ≡ c.kind = λ j c. filled-kind done.failed back.parts j c in
     let lent_for : (k : ℕ) (c : Cell) (content : Content) (b : IsLentBlock size k c content may.claim) → FitsLender size c content b.part Reading =
     λ k c content b. let F : Lender → Type 0 = λ r. FitsLender size c content b.part r in subst F may.lent_for b.fits in
     let same = back_pending opening now history stakes number claims made Reading Read back done entry fills now.log now.cookie now.errors truth here may 0 0
@@ -101,12 +101,12 @@ filled_holds opening now history stakes number claims made back done truth here 
           let b = now_lent opening now history stakes number claims made Reading Read back done entry fills now.log now.cookie now.errors truth here may k c l at in
           out-found back.ticket Reading c.away b.away b.gone (b.ticket ∙ sym may.is_return.ticket) (b.lender ∙ may.lent_for));
     })
-    (λ k c part l at. filled_home done.failed back.parts.items k c part (ap (λ ps. slice_get ps k) may.is_return.parts ∙ at))
+    (λ k c part l at. filled_home done.failed back.parts k c part (ap (λ ps. slice_get ps k) may.is_return.parts ∙ at))
     (λ k was content l t b met.
-    let q = read_back done.landed k may.claim.lent.value.parts.items b.part b.part_is in
-    let at : slice_get back.parts.items k ≡ Some q.part = ap (λ ps. slice_get ps k) may.is_return.parts ∙ q.at in
+    let q = read_back done.landed k may.claim.lent.value.parts b.part b.part_is in
+    let at : slice_get back.parts k ≡ Some q.part = ap (λ ps. slice_get ps k) may.is_return.parts ∙ q.at in
     let all : done.failed ≡ false → k < done.landed =
-    λ e. let less : nat_lt done.landed (length may.claim.lent.value.parts.items) ≡ false = sym may.is_return.failed ∙ e in let m = ltb-false _ _ less in let p = place.many in omega arith in
+    λ e. let less : nat_lt done.landed (length may.claim.lent.value.parts) ≡ false = sym may.is_return.failed ∙ e in let m = ltb-false _ _ less in let p = place.many in omega arith in
     let S : Option Part → Type 0 = λ o. ChangesBlock size (back.block + k) was (filled_cell done.failed o was) content entry (set stakes number (Some (released claims), made ++ entry ∷ [])) in
     subst S (sym at) (record {
       state = filled_state done.failed q.part was ∙ sym (ap (λ u. if u then state_back done.failed (state_of was) else state_of was) met);

@@ -51,6 +51,7 @@ pub mod NowLemmas
 pub mod NowTruth
 pub mod OnRunLemmas
 pub mod PagingLemmas
+pub mod PartRuns
 pub mod PlaceLemmas
 pub mod PlaceSpace
 pub mod PlaceTruth

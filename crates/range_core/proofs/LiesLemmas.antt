@@ -31,12 +31,12 @@ lies_now opening now b n same lies =
 
 -- a loan of as many blocks as there are pages is of blocks of the range
 pub loan_lies : (opening now : RangeView) (b ticket : ℕ) (pages : List Page) (lent : Lent) → IsSameRun opening now → opening.first ≤ b → 0 < length pages → b - now.first + length pages ≤ length now.cells
-    → lent ≡ lent_of ticket b (parts_of (cells_from now b) pages) → LiesAt opening lent.block (length lent.parts.items)
+    → lent ≡ lent_of ticket b (parts_of (cells_from now b) pages) → LiesAt opening lent.block (length lent.parts)
 loan_lies opening now b ticket pages lent same low some within is =
     let f = same.first in
     let m = same.blocks in
     let many : length (parts_of (cells_from now b) pages) ≡ length pages = length-parts_of (b - now.first) now.cells pages within in
-    let L : Lent → Type 0 = λ l. LiesAt opening l.block (length l.parts.items) in
+    let L : Lent → Type 0 = λ l. LiesAt opening l.block (length l.parts) in
     subst L (sym is) (record { low = low; some = omega arith; high = omega arith })
 
 same_number : (n : ℕ) → nat_eq (n + 0) n ≡ true

@@ -85,7 +85,7 @@ pub loan_fits : (size low block ticket k : ℕ) (cells : List Cell) (pages : Lis
 loan_fits size low block ticket k cells pages lender h was c page content lent for at pat kind same has whole fits =
     let begins : h.lent.value.block ≡ block = ap (λ l. l.block) lent in
     let off : block + k - h.lent.value.block ≡ k = omega arith in
-    let parts : h.lent.value.parts.items ≡ parts_of (drop low cells) pages = ap (λ l. l.parts.items) lent in
+    let parts : h.lent.value.parts ≡ parts_of (drop low cells) pages = ap (λ l. l.parts) lent in
     let sector : (part_of was page).sector ≡ has.sector = ap (λ o. unwrap_or o BLANK) has.is in
     let S : DeviceBlock → Type 0 = λ s. IfSome (device_number was.kind) (λ d. IsBlock size d s) in
     let K : Kind → Type 0 = λ x. IfSome (device_number x) (λ d. IsBlock size d (part_of was page).sector) in
@@ -94,7 +94,7 @@ loan_fits size low block ticket k cells pages lender h was c page content lent f
       lender = for;
       kind = ap (λ j. kind_after h.kind j) off ∙ kind;
       part = part_of was page;
-      part_is = ap (slice_get h.lent.value.parts.items) off ∙ ap (λ ps. slice_get ps k) parts ∙ parts_of-at low k cells pages was page at pat;
+      part_is = ap (slice_get h.lent.value.parts) off ∙ ap (λ ps. slice_get ps k) parts ∙ parts_of-at low k cells pages was page at pat;
       sector = subst K (sym same) (subst S (sym sector) has.block);
       page = whole;
       fits = fits;
@@ -140,7 +140,7 @@ pub record IsLentBlock (size k : ℕ) (c : Cell) (content : Content) (h : Held) 
   pub space : IsTrue (has_space c.kind)
   pub kind : kind_after h.kind k ≡ c.kind
   pub part : Part
-  pub part_is : slice_get h.lent.value.parts.items k ≡ Some part
+  pub part_is : slice_get h.lent.value.parts k ≡ Some part
   pub sector : IfSome (device_number c.kind) (λ d. IsBlock size d part.sector)
   pub page : IsWholePage size part.page
   pub fits : FitsLender size c content part h.lender
@@ -160,7 +160,7 @@ lent_block size b k c content stakes number claims made h at t here held named =
       space = away_space size c claimed.away claimed.is t.place;
       kind = ap (λ j. kind_after h.kind j) (sym off) ∙ fits.kind;
       part = fits.part;
-      part_is = ap (slice_get h.lent.value.parts.items) (sym off) ∙ fits.part_is;
+      part_is = ap (slice_get h.lent.value.parts) (sym off) ∙ fits.part_is;
       sector = fits.sector;
       page = fits.page;
       fits = subst F (sym fits.lender) fits.fits;

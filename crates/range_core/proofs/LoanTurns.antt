@@ -41,8 +41,8 @@ use Rattle.range_core.specs.Happened.{IsAsFound}
 use Rattle.range_core.proofs.StakeTruth.{Works}
 
 -- what a claim on so many blocks names
-loan_named : (block n x : ℕ) (claims left : ClaimsView) (claim : Held) → left ≡ holding claims claim → claim.lent.value.block ≡ block → length claim.lent.value.parts.items ≡ n → names_block x left.held ≡ in_run block n x
-loan_named block n x claims left claim is at many = ap (λ (l : ClaimsView). names_block x l.held) is ∙ ap (λ b. in_run b (length claim.lent.value.parts.items) x) at ∙ ap (λ m. in_run block m x) many
+loan_named : (block n x : ℕ) (claims left : ClaimsView) (claim : Held) → left ≡ holding claims claim → claim.lent.value.block ≡ block → length claim.lent.value.parts ≡ n → names_block x left.held ≡ in_run block n x
+loan_named block n x claims left claim is at many = ap (λ (l : ClaimsView). names_block x l.held) is ∙ ap (λ b. in_run b (length claim.lent.value.parts) x) at ∙ ap (λ m. in_run block m x) many
 
 module _ (opening now : RangeView) (history : List Entry) (stakes : List RangeStake) (number : ℕ) (claims left : ClaimsView) (made : List Entry) (entry : Entry) (lender : Lender) (block n : ℕ) (pages : List Page) where
   abbrev away : Away
@@ -104,7 +104,7 @@ module _ (opening now : RangeView) (history : List Entry) (stakes : List RangeSt
       → RangeTruth opening next (history ++ entry ∷ []) others
   loan_truth t here begins free hold as_many within is blocks headroom uncached =
       let lends : ℕ → Cell → Cell = λ _ c. lent_cell away c in
-      let many : length hold.claim.lent.value.parts.items ≡ n = ap (λ l. length l.parts.items) hold.lent_is ∙ length-parts_of low now.cells pages (omega arith) ∙ as_many in
+      let many : length hold.claim.lent.value.parts ≡ n = ap (λ l. length l.parts) hold.lent_is ∙ length-parts_of low now.cells pages (omega arith) ∙ as_many in
       let at_block : hold.claim.lent.value.block ≡ block = ap (λ l. l.block) hold.lent_is in
       let held : left.held ≡ Some hold.claim = ap (λ (l : ClaimsView). l.held) hold.left_is in
       let kinds : kinds_of next.cells ≡ kinds_of now.cells = map-on_each lends (λ (c : Cell). c.kind) (λ _ c. lent-kind away c) 0 low n now.cells in

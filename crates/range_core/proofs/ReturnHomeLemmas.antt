@@ -140,24 +140,24 @@ length-parts_after Write landed parts = length-moved block_written landed parts
 -- what comes back is at the blocks of the claim
 pub record IsAtClaim (first : ℕ) (h : Held) (back : Lent) : Type 0 where
   pub low : back.block - first ≡ h.lent.value.block - first
-  pub many : length back.parts.items ≡ length h.lent.value.parts.items
+  pub many : length back.parts ≡ length h.lent.value.parts
 
 pub at_claim : (first : ℕ) (claims : ClaimsView) (h : Held) (op : Op) (back : Lent) (done : Done) → IsReturn claims h op back done → IsAtClaim first h back
-at_claim first claims h op back done is = record { low = ap (λ b. b - first) is.block; many = ap length is.parts ∙ length-parts_after op done.landed h.lent.value.parts.items }
+at_claim first claims h op back done is = record { low = ap (λ b. b - first) is.block; many = ap length is.parts ∙ length-parts_after op done.landed h.lent.value.parts }
 
 module _ (r : RangeView) (h : Held) (op : Op) (landed : ℕ) (f : ℕ → Cell → Cell) where
   -- the blocks of a claim all come home with what is back of its parts
   abbrev pub AllHome : Type 0
-  AllHome = (k : ℕ) (c : Cell) (part : Part) → k < length h.lent.value.parts.items → slice_get (parts_after op landed h.lent.value.parts.items) k ≡ Some part → IsHomeWith part c (f k c)
+  AllHome = (k : ℕ) (c : Cell) (part : Part) → k < length h.lent.value.parts → slice_get (parts_after op landed h.lent.value.parts) k ≡ Some part → IsHomeWith part c (f k c)
 
   abbrev low : ℕ
   low = h.lent.value.block - r.first
 
   abbrev many : ℕ
-  many = length h.lent.value.parts.items
+  many = length h.lent.value.parts
 
-  back_at : AreOut r h → (k : ℕ) (c : Cell) → k < many → slice_get r.cells (low + k) ≡ Some c → HomePart r.geometry.block_size op landed k h.lent.value.parts.items (device_number c.kind)
-  back_at out k c l at = let o = out.out k c l at in home_part r.geometry.block_size op landed k h.lent.value.parts.items (device_number c.kind) o.part o.part_is o.page o.sector
+  back_at : AreOut r h → (k : ℕ) (c : Cell) → k < many → slice_get r.cells (low + k) ≡ Some c → HomePart r.geometry.block_size op landed k h.lent.value.parts (device_number c.kind)
+  back_at out k c l at = let o = out.out k c l at in home_part r.geometry.block_size op landed k h.lent.value.parts (device_number c.kind) o.part o.part_is o.page o.sector
 
   home_at : (out : AreOut r h) → AllHome → (k : ℕ) (c : Cell) (l : k < many) (at : slice_get r.cells (low + k) ≡ Some c) → IsHomeWith (back_at out k c l at).part c (f k c)
   home_at out home k c l at = home k c _ l (back_at out k c l at).at
@@ -198,13 +198,13 @@ module _ (r : RangeView) (h : Held) (op : Op) (landed : ℕ) (f : ℕ → Cell �
 
 -- a range keeps its invariant when blocks come home to it
 pub returned_keeps : (r : RangeView) (h : Held) (op : Op) (landed : ℕ) (f : ℕ → Cell → Cell) (back : Lent) (cells : List Cell) (cookie errors used capacity : ℕ) → IsSound r → AreOut r h → AllHome r h op landed f → IsAtClaim r.first h back
-    → cells ≡ on_each f 0 (back.block - r.first) (length back.parts.items) r.cells → used + total is_gone r.cells ≤ capacity
+    → cells ≡ on_each f 0 (back.block - r.first) (length back.parts) r.cells → used + total is_gone r.cells ≤ capacity
     → IsSound (range_view r.geometry r.mode r.first cells r.log cookie errors r.tickets r.seat r.space) × (used + total is_gone cells ≤ capacity)
 returned_keeps r h op landed f back cells cookie errors used capacity sound out home place is room =
     let low : ℕ = h.lent.value.block - r.first in
-    let n : ℕ = length h.lent.value.parts.items in
+    let n : ℕ = length h.lent.value.parts in
     let now : List Cell = on_each f 0 low n r.cells in
-    let now_is : cells ≡ now = is ∙ ap (λ l. on_each f 0 l (length back.parts.items) r.cells) place.low ∙ ap (λ m. on_each f 0 low m r.cells) place.many in
+    let now_is : cells ≡ now = is ∙ ap (λ l. on_each f 0 l (length back.parts) r.cells) place.low ∙ ap (λ m. on_each f 0 low m r.cells) place.many in
     let S : List Cell → Type 0 = λ xs. IsSound (range_view r.geometry r.mode r.first xs r.log cookie errors r.tickets r.seat r.space) in
     let gone = returned_gone r h op landed f out home in (
       subst S (sym now_is) (sound_unlogged r now cookie errors r.tickets r.seat r.space sound (length-on_each f 0 low n r.cells) (returned_places r h op landed f out home sound.places) (returned_space r h op landed f out home r.geometry.block_size r.space sound.space)),

@@ -57,20 +57,20 @@ out_on size b k c content h at place claimed =
       gone = (subst P claimed.is place).0;
       kind = ap (λ j. kind_after h.kind j) (sym off) ∙ fits.kind;
       part = fits.part;
-      part_is = ap (slice_get h.lent.value.parts.items) (sym off) ∙ fits.part_is;
+      part_is = ap (slice_get h.lent.value.parts) (sym off) ∙ fits.part_is;
       sector = fits.sector;
       page = fits.page;
     }
 
 -- the blocks of a seat's claim are all away on it
 pub are_out : (opening now : RangeView) (history : List Entry) (stakes : List RangeStake) (number : ℕ) (claims : ClaimsView) (made : List Entry) (h : Held) → RangeTruth opening now history stakes
-    → Works stakes number claims made → claims.held ≡ Some h → LiesAt opening h.lent.value.block (length h.lent.value.parts.items) → AreOut now h
+    → Works stakes number claims made → claims.held ≡ Some h → LiesAt opening h.lent.value.block (length h.lent.value.parts) → AreOut now h
 are_out opening now history stakes number claims made h t here held lies =
     let first = t.same_run.first in
     let many = t.same_run.blocks in
     let low = lies.low in
     let high = lies.high in
-    let S : ℕ → Type 0 = λ size. (k : ℕ) (c : Cell) → k < length h.lent.value.parts.items → slice_get now.cells (h.lent.value.block - now.first + k) ≡ Some c → IsOutOn size h k c in
+    let S : ℕ → Type 0 = λ size. (k : ℕ) (c : Cell) → k < length h.lent.value.parts → slice_get now.cells (h.lent.value.block - now.first + k) ≡ Some c → IsOutOn size h k c in
     record {
       low = omega arith;
       high = omega arith;
@@ -79,7 +79,7 @@ are_out opening now history stakes number claims made h t here held lies =
           let b : ℕ = opening.first + i in
           let is : b ≡ h.lent.value.block + k = omega arith in
           let true_at = t.blocks i c at in
-          let named : names_block b (Some h) ≡ true = in_run-true h.lent.value.block (length h.lent.value.parts.items) b (omega arith) (omega arith) in
+          let named : names_block b (Some h) ≡ true = in_run-true h.lent.value.block (length h.lent.value.parts) b (omega arith) (omega arith) in
           out_on opening.geometry.block_size b k c (content_at opening history i) h is true_at.place (claim_at opening.geometry.block_size b c (content_at opening history i) stakes number claims made h true_at here held named));
     }
 

@@ -47,7 +47,7 @@ module _ (opening now : RangeView) (history : List Entry) (stakes : List RangeSt
   low = back.block - now.first
 
   abbrev n : ℕ
-  n = length back.parts.items
+  n = length back.parts
 
   abbrev others : List RangeStake
   others = set stakes number (Some (released claims), made ++ entry ∷ [])
@@ -72,7 +72,7 @@ module _ (opening now : RangeView) (history : List Entry) (stakes : List RangeSt
     pub back_named : (x : ℕ) → names_block x (Some may.claim) ≡ in_run back.block n x
     back_named x =
         let place = at_claim 0 claims may.claim op back done may.is_return in
-        ap (λ b. in_run b (length may.claim.lent.value.parts.items) x) (sym may.is_return.block) ∙ ap (λ m. in_run back.block m x) (sym place.many)
+        ap (λ b. in_run b (length may.claim.lent.value.parts) x) (sym may.is_return.block) ∙ ap (λ m. in_run back.block m x) (sym place.many)
 
     -- each block that comes back tells what it was lent for
     pub back_lent : (k : ℕ) (was : Cell) (content : Content) → k < n → IsTrueAt size (back.block + k) was content stakes → IsLentBlock size k was content may.claim

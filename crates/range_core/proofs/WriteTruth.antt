@@ -176,7 +176,7 @@ pub record DirtyClauses (now next : RangeView) (claims left : ClaimsView) (chang
   pub free : OnErr result (left ≡ claims)
   pub state : OnOk result (next ≡ lent_dirty now change.block change.blocks)
   pub lent : IfOk result (λ lent. lent ≡ dirty_loan now change.block change.blocks)
-  pub ready : IfOk result (λ lent. CanTransfer lent.parts.items)
+  pub ready : IfOk result (λ lent. CanTransfer lent.parts)
   pub claims_are : IfOk result (λ lent. TakesHold claims left lent Writeback (first_kind (cells_from now change.block)))
 
 abbrev pub DirtyDoes : RangeView → LendDirty → LendDirty → RangeView → RangeView → ClaimsView → ClaimsView → Result Lent EventFault → Entry → Type 0
@@ -204,7 +204,7 @@ dirty_turn opening now next history stakes number claims left made change later 
     let many : length pages ≡ n = copies-length (change.block - now.first) n now.cells c.run.within in
     let some = c.run.some in
     let within = c.run.within in
-    let lies : LiesAt opening lent.block (length lent.parts.items) = loan_lies opening now change.block now.tickets pages lent t.same_run may.lies.low (omega arith) (omega arith) c.lent in
+    let lies : LiesAt opening lent.block (length lent.parts) = loan_lies opening now change.block now.tickets pages lent t.same_run may.lies.low (omega arith) (omega arith) c.lent in
     let N : RangeView → Type 0 = λ r. RangeTruth opening r (history ++ entry ∷ []) (set stakes number (Some left, made ++ entry ∷ [])) in
     record {
       entry = entry;

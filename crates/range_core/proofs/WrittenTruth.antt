@@ -114,7 +114,7 @@ module _ (opening now : RangeView) (history : List Entry) (stakes : List RangeSt
   low = back.block - now.first
 
   abbrev n : ℕ
-  n = length back.parts.items
+  n = length back.parts
 
   abbrev kind : Kind
   kind = first_kind (cells_from now back.block)
@@ -123,12 +123,12 @@ module _ (opening now : RangeView) (history : List Entry) (stakes : List RangeSt
   entry = written_entry claims back kind done count
 
   abbrev ends : ℕ → Cell → Cell
-  ends = ended_of done.failed back.parts.items
+  ends = ended_of done.failed back.parts
 
   abbrev next : RangeView
   next = written now back done
 
-  many : (length may.claim.lent.value.parts.items ≡ n) × (0 < n)
+  many : (length may.claim.lent.value.parts ≡ n) × (0 < n)
   many = let place = at_claim 0 claims may.claim Write back done may.is_return in let p = place.many in let s = may.is_return.some in (sym p, omega arith)
 
   lent : (k : ℕ) (c : Cell) → k < n → slice_get now.cells (low + k) ≡ Some c → IsLentBlock size k c (content_at opening history (low + k)) may.claim
@@ -150,8 +150,8 @@ module _ (opening now : RangeView) (history : List Entry) (stakes : List RangeSt
   -- a block that has come back changes its kind by no event without refusal
   ended_pending : (k : ℕ) (c : Cell) (content : Content) → k < n → IsLentBlock size k c content may.claim → pending (ends k c) ≡ 0
   ended_pending k c content l b =
-      let part = item_within back.parts.items k l in
-      let home = ended_home done.failed back.parts.items k c part.0 part.1 in
+      let part = item_within back.parts k l in
+      let home = ended_home done.failed back.parts k c part.0 part.1 in
       let S : Option ℕ → Type 0 = λ o. IsTrue (is_some o) in
       home_pending (ends k c) home.away (subst S (sym home.number) b.space)
 
@@ -187,14 +187,14 @@ module _ (opening now : RangeView) (history : List Entry) (stakes : List RangeSt
     where
       at : (u v : Bool) → done.failed ≡ u → is_unwritten kind ≡ v → kinds_of next.cells ≡ kinds_of now.cells
       at true v e g =
-          let K : Bool → Type 0 = λ t. kinds_of (on_each (ended_of t back.parts.items) 0 low n now.cells) ≡ kinds_of now.cells in
-          subst K (sym e) (map-on_each (ended_of true back.parts.items) (λ (c : Cell). c.kind) (λ j c. ended-kind back.parts.items j c) 0 low n now.cells)
+          let K : Bool → Type 0 = λ t. kinds_of (on_each (ended_of t back.parts) 0 low n now.cells) ≡ kinds_of now.cells in
+          subst K (sym e) (map-on_each (ended_of true back.parts) (λ (c : Cell). c.kind) (λ j c. ended-kind back.parts j c) 0 low n now.cells)
       at false true e g = absurd (let r : raise kind done.failed ≡ 1 = ap (λ t. one_where (t && not done.failed)) g ∙ ap (λ t. one_where (not t)) e in omega arith)
       at false false e g =
-          let K : Bool → Type 0 = λ t. kinds_of (on_each (ended_of t back.parts.items) 0 low n now.cells) ≡ kinds_of now.cells in
+          let K : Bool → Type 0 = λ t. kinds_of (on_each (ended_of t back.parts) 0 low n now.cells) ≡ kinds_of now.cells in
           let within = (back_within opening now history stakes number claims made Writeback Write back done entry ends now.log next.cookie next.errors truth here may).0 in
-          subst K (sym e) (map-on_each_at (ended_of false back.parts.items) (λ (c : Cell). c.kind) 0 low n now.cells within
-          (λ j c l at. mapped-kind back.parts.items (0 + j) c (unwritten_alike j c _ (lent j c l at) ∙ g)))
+          subst K (sym e) (map-on_each_at (ended_of false back.parts) (λ (c : Cell). c.kind) 0 low n now.cells within
+          (λ j c l at. mapped-kind back.parts (0 + j) c (unwritten_alike j c _ (lent j c l at) ∙ g)))
 
   pub written_holds : RangeTruth opening next (history ++ entry ∷ []) (set stakes number (Some (released claims), made ++ entry ∷ []))
   written_holds =
@@ -214,12 +214,12 @@ module _ (opening now : RangeView) (history : List Entry) (stakes : List RangeSt
             let b = lent k c l at in
             both (is_out back.ticket Writeback c.away) _ (out-found back.ticket Writeback c.away b.away b.gone (b.ticket ∙ sym may.is_return.ticket) (b.lender ∙ may.lent_for)) (kind-found kind may.claim.kind c.kind back.block k kind_is b.kind));
       })
-      (λ k c part l at. ended_home done.failed back.parts.items k c part (ap (λ ps. slice_get ps k) may.is_return.parts ∙ at))
+      (λ k c part l at. ended_home done.failed back.parts k c part (ap (λ ps. slice_get ps k) may.is_return.parts ∙ at))
       (λ k was content l t b met.
-      let q = part_written done.landed k may.claim.lent.value.parts.items b.part b.part_is in
-      let at : slice_get back.parts.items k ≡ Some q.part = ap (λ ps. slice_get ps k) may.is_return.parts ∙ q.at in
+      let q = part_written done.landed k may.claim.lent.value.parts b.part b.part_is in
+      let at : slice_get back.parts k ≡ Some q.part = ap (λ ps. slice_get ps k) may.is_return.parts ∙ q.at in
       let all : done.failed ≡ false → k < done.landed =
-      λ e. let less : nat_lt done.landed (length may.claim.lent.value.parts.items) ≡ false = sym may.is_return.failed ∙ e in let m = ltb-false _ _ less in let p = many.0 in omega arith in
+      λ e. let less : nat_lt done.landed (length may.claim.lent.value.parts) ≡ false = sym may.is_return.failed ∙ e in let m = ltb-false _ _ less in let p = many.0 in omega arith in
       let F : Lender → Type 0 = λ r. FitsLender size was content b.part r in
       let S : Option Part → Type 0 = λ o. ChangesBlock size (back.block + k) was (ended_cell done.failed o was) content entry (set stakes number (Some (released claims), made ++ entry ∷ [])) in
       subst S (sym at) (record {

@@ -47,7 +47,7 @@ pub record FitsClaim (size b : ℕ) (c : Cell) (content : Content) (away : Away)
   pub lender : h.lender ≡ away.lender
   pub kind : kind_after h.kind (b - h.lent.value.block) ≡ c.kind
   pub part : Part
-  pub part_is : slice_get h.lent.value.parts.items (b - h.lent.value.block) ≡ Some part
+  pub part_is : slice_get h.lent.value.parts (b - h.lent.value.block) ≡ Some part
   pub sector : IfSome (device_number c.kind) (λ d. IsBlock size d part.sector)
   pub page : IsWholePage size part.page
   pub fits : FitsLender size c content part away.lender

@@ -1,6 +1,6 @@
 -- What the return of blocks that were lent for a caller's own pages does.
-use Rattle.std.specs.Prelude.{◌≡◌, ℕ, ◌+◌, ◌-◌, ◌<◌, Bool, true, false, ◌&&◌, ◌++◌, Option, Some, None, List, [], length, map, slice_get}
-use Rattle.arrayvec.specs.ArrayVec.{ArrayVec}
+use Rattle.std.specs.Prelude.{◌≡◌, ℕ, ◌+◌, ◌-◌, ◌<◌, Bool, true, false, ◌&&◌, ◌++◌, Option, Some, None, List, [], length, map, slice_get, All}
+use Rattle.iob_base.specs.Parting.{IsBare, pages_of}
 use Rattle.fault_device.specs.declared.lane.Done.{Done}
 use Rattle.iob_base.specs.declared.part.Part.{Part}
 use Rattle.iob_base.specs.declared.sector.Page.{Page}
@@ -35,7 +35,7 @@ kind_held (Some held) = held.kind
 -- the pages of what a claim names, as they were lent
 abbrev pub pages_held : Option Held → List Page
 pages_held None = []
-pages_held (Some held) = map (λ p. p.page) held.lent.value.parts.items
+pages_held (Some held) = map (λ p. p.page) held.lent.value.parts
 
 -- a block is mapped where a caller's page was written to it
 abbrev pub marked_back : Op → Bool → Cell → Cell
@@ -54,8 +54,8 @@ lands Write kind = is_mapped kind
 -- the range after n blocks came back with these parts: each has its stamp, and the cookie rose where blocks of this kind were mapped
 abbrev pub after_direct_back : RangeView → Tag → Op → Kind → Lent → Done → RangeView
 after_direct_back r by op kind back done =
-    let n = length back.parts.items in
-    record r { cells = on_each (came_back op done.failed back.parts.items) 0 (back.block - r.first) n r.cells; log = r.log ++ direct_stamps by op back.block kind n done; cookie = r.cookie + one_where (is_unwritten kind && is_write_back op done.failed) }
+    let n = length back.parts in
+    record r { cells = on_each (came_back op done.failed back.parts) 0 (back.block - r.first) n r.cells; log = r.log ++ direct_stamps by op back.block kind n done; cookie = r.cookie + one_where (is_unwritten kind && is_write_back op done.failed) }
 
 -- a transfer leaves each page its number, and a write its bytes too
 abbrev pub KeepsPages : Op → List Page → List Page → Type 0
@@ -67,7 +67,7 @@ abbrev pub back_in : EndDirect → Lent
 back_in change = lent_in change.back
   where
     lent_in : Option Lent → Lent
-    lent_in None = record { ticket = 0; block = 0; parts = record { items = [] } }
+    lent_in None = record { ticket = 0; block = 0; parts = [] }
     lent_in (Some back) = back
 
 -- The turn may begin: what comes back was lent for the same call in the same direction
@@ -95,12 +95,13 @@ back_entry claims change = record {
 }
 
 -- What the turn did: the sectors are home, and the pages came back in order
-pub record ReturnedDirectly (change later : EndDirect) (opening : RangeView) (history : List Entry) (before after : RangeView) (claims left : ClaimsView) (pages : ArrayVec Page) (entry : Entry) : Type 0 where
+pub record ReturnedDirectly (change later : EndDirect) (opening : RangeView) (history : List Entry) (before after : RangeView) (claims left : ClaimsView) (pages : List Part) (entry : Entry) : Type 0 where
   pub change_is : later ≡ record change { back = None }
   pub value : after ≡ after_direct_back before change.by change.op (kind_held claims.held) (back_in change) change.done
-  pub cold : (k : ℕ) (c : Cell) → k < length pages.items → slice_get after.cells ((back_in change).block - after.first + k) ≡ Some c → IsCold c
+  pub cold : (k : ℕ) (c : Cell) → k < length (pages_of pages) → slice_get after.cells ((back_in change).block - after.first + k) ≡ Some c → IsCold c
   pub claims_are : left ≡ released claims
-  pub pages_are : pages.items ≡ map (λ p. p.page) (back_in change).parts.items
-  pub kept : KeepsPages change.op (pages_held claims.held) pages.items
-  pub reads : ReadsContents opening history change.op (kind_held claims.held) (back_in change).block change.done.landed pages.items
+  pub pages_are : pages_of pages ≡ map (λ p. p.page) (back_in change).parts
+  pub bare : All IsBare pages
+  pub kept : KeepsPages change.op (pages_held claims.held) (pages_of pages)
+  pub reads : ReadsContents opening history change.op (kind_held claims.held) (back_in change).block change.done.landed (pages_of pages)
   pub entry_is : entry ≡ back_entry claims change

@@ -1,6 +1,7 @@
 -- What lending blocks for a caller's own pages does.
 use Rattle.std.specs.Prelude.{◌≡◌, ℕ, ◌+◌, ◌-◌, ◌≤◌, ◌%◌, ◌^◌, Bool, true, Option, Some, None, Result, Ok, Err, List, [], length, map, slice_get, All, unwrap_or, if◌then◌else◌}
-use Rattle.arrayvec.specs.ArrayVec.{ArrayVec}
+use Rattle.iob_base.specs.Parting.{IsBare, bare_parts, pages_of}
+use Rattle.iob_base.specs.declared.part.Part.{Part}
 use Rattle.iob_base.specs.declared.sector.Page.{Page}
 use Rattle.iob_base.specs.declared.stamp.Mode.TheVariants.{Cached}
 use Rattle.iob_base.specs.declared.stamp.Op.{Op}
@@ -75,17 +76,20 @@ after_lend_direct r by seen op block n = if goes_out op seen.extent.kind then di
 abbrev pub zeroed : Page → Page
 zeroed p = record p { bytes = zeros (length p.bytes) }
 
+abbrev pub part_zeroed : Part → Part
+part_zeroed p = record p { page = zeroed p.page }
+
 -- the sectors of the blocks from one on with these pages, in order
 abbrev pub direct_loan : RangeView → ℕ → List Page → Lent
 direct_loan r block pages = lent_of r.tickets block (parts_of (cells_from r block) pages)
 
 abbrev pub direct_answer : RangeView → Sample → Op → ℕ → List Page → Answer
 direct_answer r seen op block pages =
-    if goes_out op seen.extent.kind then LentOut (direct_loan r block pages) else Zeros (record { items = map zeroed pages })
+    if goes_out op seen.extent.kind then LentOut (direct_loan r block pages) else Zeros (bare_parts (map zeroed pages))
 
 -- what was lent can be transferred, and its blocks are of a kind that goes out
 abbrev pub GoesOut : Op → Kind → Answer → Type 0
-GoesOut op kind (LentOut lent) = CanTransfer lent.parts.items × (goes_out op kind ≡ true)
+GoesOut op kind (LentOut lent) = CanTransfer lent.parts × (goes_out op kind ≡ true)
 GoesOut op kind (Zeros pages) = Unit {0}
 
 -- the seat claims what was lent to it, and where nothing was lent it claims what it did
@@ -97,19 +101,20 @@ ClaimsAnswer claims left by op kind (Zeros pages) = left ≡ claims
 abbrev pub pages_in : LendPages → List Page
 pages_in change = items_of change.pages
   where
-    items_of : Option (ArrayVec Page) → List Page
+    items_of : Option (List Part) → List Page
     items_of None = []
-    items_of (Some pages) = pages.items
+    items_of (Some pages) = pages_of pages
 
 -- The turn may begin: what the event asks, of the range as it was opened and of what the seat has seen
 pub record ReadyToLend (change : LendPages) (opening : RangeView) (history : List Entry) (claims : ClaimsView) : Type 0 where
-  pub pages : ArrayVec Page
+  pub pages : List Part
   pub pages_are : change.pages ≡ Some pages
   pub cached : opening.mode ≡ Cached
-  pub lies : LiesAt opening change.block (length pages.items)
-  pub whole : All (IsWholePage opening.geometry.block_size) pages.items
+  pub lies : LiesAt opening change.block (length (pages_of pages))
+  pub whole : All (IsWholePage opening.geometry.block_size) (pages_of pages)
+  pub bare : All IsBare pages
   pub low : change.seen.extent.block ≤ change.block
-  pub high : change.block + length pages.items ≤ change.seen.extent.block + change.seen.extent.length
+  pub high : change.block + length (pages_of pages) ≤ change.seen.extent.block + change.seen.extent.length
   pub given : WasGiven change.seen history
   pub takes : CanTake change.op change.seen.extent.kind
   pub free : claims.held ≡ None
@@ -125,11 +130,11 @@ lend_outcome ticket n (Zeros pages) = Finished
 -- the pages have the contents of their blocks, where they are answered
 abbrev pub ReadsZeros : RangeView → List Entry → ℕ → Answer → Type 0
 ReadsZeros opening history block (LentOut lent) = Unit {0}
-ReadsZeros opening history block (Zeros pages) = (k : ℕ) (p : Page) → slice_get pages.items k ≡ Some p → p.bytes ≡ content_at opening history (block - opening.first + k)
+ReadsZeros opening history block (Zeros pages) = (k : ℕ) (p : Page) → slice_get (pages_of pages) k ≡ Some p → p.bytes ≡ content_at opening history (block - opening.first + k)
 
 -- what was lent are blocks of the range
 abbrev pub AnswerLies : RangeView → Answer → Type 0
-AnswerLies r (LentOut lent) = LiesAt r lent.block (length lent.parts.items)
+AnswerLies r (LentOut lent) = LiesAt r lent.block (length lent.parts)
 AnswerLies r (Zeros pages) = Unit {0}
 
 -- Blocks were lent with the pages, or the pages have the zeros that the blocks read as

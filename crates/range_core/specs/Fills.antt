@@ -89,7 +89,7 @@ filled_of failed parts k c = filled_cell failed (slice_get parts k) c
 
 -- the range after a read of these parts
 abbrev pub filled : RangeView → Lent → Done → RangeView
-filled r back done = with_each (filled_of done.failed back.parts.items) r back.block (length back.parts.items)
+filled r back done = with_each (filled_of done.failed back.parts) r back.block (length back.parts)
 
 abbrev pub cold_entry : ClaimsView → LendCold → Outcome → Entry
 cold_entry claims change outcome = record { caller = claims.caller; event = LendRead change.block change.blocks; outcome = outcome }
@@ -101,10 +101,10 @@ pub record LentCold (opening : RangeView) (change later : LendCold) (before afte
   pub run : IsColdRun before.cells (change.block - before.first) (fill_length before change.block change.blocks)
   pub value : after ≡ lent_cold before change.block change.blocks
   pub lent_is : lent ≡ cold_loan before change.block change.blocks
-  pub ready : CanTransfer lent.parts.items
+  pub ready : CanTransfer lent.parts
   pub claims_are : TakesHold claims left lent Reading (first_kind (cells_from before change.block))
   pub entry_is : entry ≡ cold_entry claims change (Lending before.tickets (fill_length before change.block change.blocks))
-  pub lies : LiesAt opening lent.block (length lent.parts.items)
+  pub lies : LiesAt opening lent.block (length lent.parts)
 
 -- The turn was refused, and nothing changed
 pub record RefusedCold (change later : LendCold) (before after : RangeView) (claims left : ClaimsView) (fault : EventFault) (entry : Entry) : Type 0 where
@@ -115,7 +115,7 @@ pub record RefusedCold (change later : LendCold) (before after : RangeView) (cla
   pub entry_is : entry ≡ cold_entry claims change (Refused fault)
 
 abbrev pub fill_entry : ClaimsView → Lent → Done → Entry
-fill_entry claims back done = record { caller = claims.caller; event = FillBack back.ticket back.block (length back.parts.items) done; outcome = Finished }
+fill_entry claims back done = record { caller = claims.caller; event = FillBack back.ticket back.block (length back.parts) done; outcome = Finished }
 
 -- The turn took blocks back from a read
 pub record Filled (change later : FillPages) (before after : RangeView) (claims left : ClaimsView) (entry : Entry) : Type 0 where

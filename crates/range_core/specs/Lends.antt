@@ -49,7 +49,7 @@ pub record HaveSectors (cells : List Cell) (low n : ℕ) : Type 0 where
 
 -- what is lent on a ticket
 abbrev pub lent_of : ℕ → ℕ → List Part → Lent
-lent_of ticket block parts = record { ticket = ticket; block = block; parts = record { items = parts } }
+lent_of ticket block parts = record { ticket = ticket; block = block; parts = parts }
 
 -- a seat claims what it was lent, and goes on with all else that it claims
 pub record TakesHold (claims left : ClaimsView) (lent : Lent) (lender : Lender) (kind : Kind) : Type 0 where

@@ -18,7 +18,7 @@ held_by (Some c) = c.held
 -- a claim names a block
 abbrev pub names_block : ℕ → Option Held → Bool
 names_block b None = false
-names_block b (Some h) = in_run h.lent.value.block (length h.lent.value.parts.items) b
+names_block b (Some h) = in_run h.lent.value.block (length h.lent.value.parts) b
 
 abbrev pub names : ℕ → RangeStake → ℕ
 names b s = one_where (names_block b (held_by s.0))

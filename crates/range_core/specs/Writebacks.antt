@@ -1,5 +1,6 @@
 -- What turns that write dirty blocks to the device do.
 use Rattle.std.specs.Prelude.{◌≡◌, ◌≢◌, ℕ, ◌+◌, ◌-◌, ◌^◌, ◌<◌, ◌≤◌, Bool, ◌&&◌, not, true, false, min, if◌then◌else◌, Option, Some, None, is_none, IsTrue, IsSomeAnd, List, [], ◌∷◌, length, take, drop, map, slice_get, unwrap_or}
+use Rattle.iob_base.specs.Parting.{bare_part}
 use Rattle.iob_base.specs.declared.sector.Page.{Page}
 use Rattle.fault_device.specs.Transfer.{CanTransfer}
 use Rattle.fault_device.specs.declared.lane.Done.{Done}
@@ -74,6 +75,10 @@ copied (Some page) = cache_page page.bytes
 abbrev pub page_copy : Cell → Page
 page_copy c = copied c.page
 
+-- the same, which goes with no block yet
+abbrev pub part_copy : Cell → Part
+part_copy c = bare_part (page_copy c)
+
 -- the range, and what is lent: the sectors of the run with snapshots of its pages
 abbrev pub lent_dirty : RangeView → ℕ → ℕ → RangeView
 lent_dirty r b n = with_lent Writeback r b (write_length r b n)
@@ -102,14 +107,14 @@ raise kind failed = one_where (is_unwritten kind && not failed)
 abbrev pub written : RangeView → Lent → Done → RangeView
 written r back done =
     record r {
-      cells = on_each (ended_of done.failed back.parts.items) 0 (back.block - r.first) (length back.parts.items) r.cells;
+      cells = on_each (ended_of done.failed back.parts) 0 (back.block - r.first) (length back.parts) r.cells;
       cookie = r.cookie + raise (first_kind (cells_from r back.block)) done.failed;
       errors = min (r.errors + one_where done.failed) (2 ^ 64 - 1);
     }
 
 -- how many blocks were written
 abbrev pub written_count : Lent → Done → ℕ
-written_count back done = if done.failed then 0 else length back.parts.items
+written_count back done = if done.failed then 0 else length back.parts
 
 abbrev pub dirty_entry : ClaimsView → LendDirty → Outcome → Entry
 dirty_entry claims change outcome = record { caller = claims.caller; event = LendWriteback change.block change.blocks; outcome = outcome }
@@ -121,10 +126,10 @@ pub record LentDirty (opening : RangeView) (change later : LendDirty) (before af
   pub run : IsDirtyRun before.cells (change.block - before.first) (write_length before change.block change.blocks)
   pub value : after ≡ lent_dirty before change.block change.blocks
   pub lent_is : lent ≡ dirty_loan before change.block change.blocks
-  pub ready : CanTransfer lent.parts.items
+  pub ready : CanTransfer lent.parts
   pub claims_are : TakesHold claims left lent Writeback (first_kind (cells_from before change.block))
   pub entry_is : entry ≡ dirty_entry claims change (Lending before.tickets (write_length before change.block change.blocks))
-  pub lies : LiesAt opening lent.block (length lent.parts.items)
+  pub lies : LiesAt opening lent.block (length lent.parts)
 
 -- The turn was refused, and nothing changed
 pub record RefusedDirty (change later : LendDirty) (before after : RangeView) (claims left : ClaimsView) (fault : EventFault) (entry : Entry) : Type 0 where
@@ -135,7 +140,7 @@ pub record RefusedDirty (change later : LendDirty) (before after : RangeView) (c
   pub entry_is : entry ≡ dirty_entry claims change (Refused fault)
 
 abbrev pub written_entry : ClaimsView → Lent → Kind → Done → ℕ → Entry
-written_entry claims back kind done n = record { caller = claims.caller; event = WrittenBack back.ticket back.block kind (length back.parts.items) done; outcome = Counted n }
+written_entry claims back kind done n = record { caller = claims.caller; event = WrittenBack back.ticket back.block kind (length back.parts) done; outcome = Counted n }
 
 -- The turn took blocks back from a write, and answered how many were written
 pub record EndedWriteback (change later : EndWriteback) (before after : RangeView) (claims left : ClaimsView) (n : ℕ) (entry : Entry) : Type 0 where

@@ -1,19 +1,20 @@
 //! What came of lending blocks for a caller's own pages.
 use crate::fault::EventFault;
-use crate::lending::{Lent, Pages};
+use crate::lending::Lent;
+use iob_base::Parts;
 
 /// What came of lending blocks for a caller's own pages.
 #[derive(Drop)]
 pub enum Direct {
     /// The blocks' sectors are lent with the pages.
     Lent(Lent),
-    /// The blocks read as zeros, and so do the pages now. Nothing is lent.
-    Zeros(Pages),
+    /// The blocks read as zeros, and so do the pages of the list now. Nothing is lent.
+    Zeros(Parts),
 }
 
-/// Why no block was lent for a caller's own pages, and these pages, as they were handed in.
+/// Why no block was lent for a caller's own pages, and the list of these pages, as it was handed in.
 #[derive(Drop)]
 pub struct DirectRefused {
     pub fault: EventFault,
-    pub pages: Pages,
+    pub pages: Parts,
 }

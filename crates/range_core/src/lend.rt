@@ -1,22 +1,16 @@
 //! How the sectors of blocks are lent with pages, and come home.
-ghost use Rattle.std.specs.Prelude.{◌≡◌, ◌<◌, ◌≤◌, ◌+◌, Some, None, IsSome, drop, map, vec_len};
-ghost use Rattle.arrayvec.specs.ArrayVec.{array_vec_len};
+ghost use Rattle.std.specs.Prelude.{◌≡◌, ◌<◌, ◌≤◌, ◌+◌, Some, None, All, IsSome, drop, length, map, vec_len};
+ghost use Rattle.iob_base.specs.Parting.{IsBare, pages_of, without_sector};
 ghost use Rattle.range_core.specs.Lends.{HaveSectors, TakesHold, home_cell, home_of, lent_cell, lent_of, part_of, parts_of, written_cell};
 ghost use Rattle.range_core.specs.Lookups.{first_kind};
 ghost use Rattle.range_core.specs.OnRun.{on_each, on_run};
 
 use crate::cell::Cell;
 use crate::claims::Claims;
-use crate::lending::{Away, Held, Lender, Lent, Pages};
-use arrayvec::ArrayVec;
-use fault_device::Part;
+use crate::lending::{Away, Held, Lender, Lent};
 use io_model::Kind;
-use iob_base::{Page, Sector};
-use std::alloc::Global;
+use iob_base::{Part, Parts, Sector};
 use std::snapshot::Snapshot;
-
-/// The parts of one transfer.
-pub(crate) type Parts = ArrayVec<Part, 16, Global>;
 
 // Takes the sector of a block, and marks the block as lent.
 fn take_sector(cell: &mut Cell, away: Away) -> Sector
@@ -36,31 +30,36 @@ fn take_sector(cell: &mut Cell, away: Away) -> Sector
     sector
 }
 
-fn lend_part(cell: &mut Cell, page: Page, away: Away) -> Part
+fn lend_part(cell: &mut Cell, part: &mut Part, away: Away)
     requires { IsSome cell.old.sector }
     ensures cell { cell.new ≡ lent_cell away cell.old }
-    ensures part { result ≡ part_of cell.old page }
+    ensures part { part.new ≡ part_of cell.old part.old.page }
 {
-    let sector = take_sector(cell, away);
-    Part { sector, page }
+    part.sector = take_sector(cell, away);
 }
 
-fn lend_run(cells: &mut Vec<Cell>, low: usize, pages: Pages, away: Away) -> Parts
-    requires within { low + array_vec_len pages ≤ vec_len cells.old }
-    requires here { HaveSectors cells.old.items low (array_vec_len pages) }
-    ensures cells { cells.new.items ≡ on_run (lent_cell away) low (array_vec_len pages) cells.old.items }
-    ensures parts { result.items ≡ parts_of (drop low cells.old.items) pages.items }
+/// Fills the sectors of the blocks from the place `low` on into these parts, in order.
+fn lend_run(cells: &mut Vec<Cell>, low: usize, parts: &mut [Part], away: Away)
+    requires within { low + length parts.old ≤ vec_len cells.old }
+    requires here { HaveSectors cells.old.items low (length parts.old) }
+    ensures cells { cells.new.items ≡ on_run (lent_cell away) low (length parts.old) cells.old.items }
+    ensures parts { parts.new ≡ parts_of (drop low cells.old.items) (pages_of parts.old) }
 {
-    let mut parts = ArrayVec::new_in(*pages.allocator());
-    let n = pages.len();
-    let mut pages = pages.into_iter();
-    for i in 0..n {
-        let Some(page) = pages.next() else {
-            unreachable!()
-        };
-        parts.push(lend_part(&mut cells[low + i], page, away));
+    let mut at = low;
+    for part in parts.iter_mut() {
+        lend_part(&mut cells[at], part, away);
+        at += 1;
     }
-    parts
+}
+
+fn lend_list(cells: &mut Vec<Cell>, low: usize, mut pages: Parts, away: Away) -> Parts
+    requires within { low + length (pages_of pages) ≤ vec_len cells.old }
+    requires here { HaveSectors cells.old.items low (length (pages_of pages)) }
+    ensures cells { cells.new.items ≡ on_run (lent_cell away) low (length (pages_of pages)) cells.old.items }
+    ensures parts { result ≡ parts_of (drop low cells.old.items) (pages_of pages) }
+{
+    lend_run(cells, low, pages.as_mut_slice(), away);
+    pages
 }
 
 /// Lends the blocks from the place `low` on, as many as there are pages. Their sectors go out with the pages, in order,
@@ -69,22 +68,22 @@ pub(crate) fn lend_blocks(
     cells: &mut Vec<Cell>,
     low: usize,
     block: u64,
-    pages: Pages,
+    pages: Parts,
     away: Away,
     claims: &mut Claims,
 ) -> Lent
-    requires some { 0 < array_vec_len pages }
-    requires within { low + array_vec_len pages ≤ vec_len cells.old }
-    requires here { HaveSectors cells.old.items low (array_vec_len pages) }
-    ensures cells { cells.new.items ≡ on_run (lent_cell away) low (array_vec_len pages) cells.old.items }
-    ensures lent { result ≡ lent_of away.ticket block (parts_of (drop low cells.old.items) pages.items) }
+    requires some { 0 < length (pages_of pages) }
+    requires within { low + length (pages_of pages) ≤ vec_len cells.old }
+    requires here { HaveSectors cells.old.items low (length (pages_of pages)) }
+    ensures cells { cells.new.items ≡ on_run (lent_cell away) low (length (pages_of pages)) cells.old.items }
+    ensures lent { result ≡ lent_of away.ticket block (parts_of (drop low cells.old.items) (pages_of pages)) }
     ensures claims { TakesHold claims.old claims.new result away.lender (first_kind (drop low cells.old.items)) }
 {
     let kind = cells[low].kind;
     let lent = Lent {
         ticket: away.ticket,
         block,
-        parts: lend_run(cells, low, pages, away),
+        parts: lend_list(cells, low, pages, away),
     };
     take_hold(claims, &lent, away.lender, kind);
     lent
@@ -107,24 +106,29 @@ fn put_sector(cell: &mut Cell, sector: Sector)
     cell.away = None;
 }
 
-/// Brings the sectors of these parts home, to the blocks from the place `low` on. It answers the pages, in order.
-pub(crate) fn bring_home(cells: &mut Vec<Cell>, low: usize, parts: Parts) -> Pages
-    requires { low + array_vec_len parts ≤ vec_len cells.old }
-    ensures cells { cells.new.items ≡ on_each (home_of parts.items) 0 low (array_vec_len parts) cells.old.items }
-    ensures pages { result.items ≡ map (λ p. p.page) parts.items }
+fn put_home(cells: &mut Vec<Cell>, low: usize, parts: &mut [Part])
+    requires { low + length parts.old ≤ vec_len cells.old }
+    ensures cells { cells.new.items ≡ on_each (home_of parts.old) 0 low (length parts.old) cells.old.items }
+    ensures parts { parts.new ≡ map without_sector parts.old }
 {
-    let mut pages = ArrayVec::new_in(*parts.allocator());
-    let n = parts.len();
-    let mut parts = parts.into_iter();
-    for i in 0..n {
-        let Some(part) = parts.next() else {
-            unreachable!()
-        };
-        let Part { sector, page } = part;
-        put_sector(&mut cells[low + i], sector);
-        pages.push(page);
+    let mut at = low;
+    for part in parts.iter_mut() {
+        let sector = part.take_sector();
+        put_sector(&mut cells[at], sector);
+        at += 1;
     }
-    pages
+}
+
+/// Brings the sectors of these parts home, to the blocks from the place `low` on. It answers the list with its pages, in
+/// order, and blank sectors.
+pub(crate) fn bring_home(cells: &mut Vec<Cell>, low: usize, mut parts: Parts) -> Parts
+    requires { low + length parts ≤ vec_len cells.old }
+    ensures cells { cells.new.items ≡ on_each (home_of parts) 0 low (length parts) cells.old.items }
+    ensures pages { pages_of result ≡ map (λ p. p.page) parts }
+    ensures bare { All IsBare result }
+{
+    put_home(cells, low, parts.as_mut_slice());
+    parts
 }
 
 fn mark_written(cell: &mut Cell)

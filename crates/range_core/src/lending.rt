@@ -1,8 +1,7 @@
 //! What a range lends, and what a seat's claim tells of it.
 use arrayvec::ArrayVec;
-use fault_device::Part;
 use io_model::Kind;
-use iob_base::{Op, Page, Tag};
+use iob_base::{Op, Page, Parts, Tag};
 use std::alloc::Global;
 use std::snapshot::Snapshot;
 
@@ -31,7 +30,7 @@ pub struct Away {
 pub struct Lent {
     pub ticket: u64,
     pub block: u64,
-    pub parts: ArrayVec<Part, 16, Global>,
+    pub parts: Parts,
 }
 
 /// A claim on blocks that are lent: what was lent, as contracts see it, what for, and the kind of the first block.

@@ -1,7 +1,8 @@
 //! Blocks are lent with a caller's own pages, and come back.
-ghost use Rattle.std.specs.Prelude.{◌≡◌, ◌+◌, ◌-◌, ◌<◌, ◌≤◌, ◌++◌, ◌^◌, ◌&&◌, None, length, map, vec_capacity, vec_len, unwrap_or, IfErr, IfOk, OnErr, OnOk};
+ghost use Rattle.std.specs.Prelude.{◌≡◌, ◌+◌, ◌-◌, ◌<◌, ◌≤◌, ◌++◌, ◌^◌, ◌&&◌, None, All, length, map, vec_capacity, vec_len, unwrap_or, IfErr, IfOk, OnErr, OnOk};
 ghost use Rattle.range_core.specs.DirectBacks.{lands, marked_back};
-ghost use Rattle.range_core.specs.DirectLends.{goes_out, zeroed};
+ghost use Rattle.range_core.specs.DirectLends.{goes_out, part_zeroed, zeroed};
+ghost use Rattle.iob_base.specs.Parting.{IsBare, bare_parts, pages_of};
 ghost use Rattle.range_core.specs.EntryCounts.{is_write_back, one_where};
 ghost use Rattle.range_core.specs.EntryStamps.{direct_stamps, landed_by, missed_by};
 ghost use Rattle.range_core.specs.Kinds.{is_mapped, is_unwritten};
@@ -15,15 +16,13 @@ use crate::cookie::{stale_stop, worn_stop};
 use crate::direct_answer::{Direct, DirectRefused};
 use crate::fault::EventFault;
 use crate::lend::{bring_home, lend_blocks, mark_run_written};
-use crate::lending::{Away, Lender, Lent, Pages};
+use crate::lending::{Away, Lender, Lent};
 use crate::sample::Sample;
 use crate::stamps::{add_stamps, stamp_done};
 use crate::stops::{IsAway, IsDirty, first_stop};
-use arrayvec::ArrayVec;
 use fault_device::Done;
 use io_model::Kind;
-use iob_base::{Items, Mark, Op, Page, Stamp, Tag, WORN};
-use std::alloc::Global;
+use iob_base::{Mark, Op, Part, Parts, Stamp, Tag, WORN};
 use turn_cell::Change;
 
 /// Whether blocks of this kind go out with the pages. For a read others than mapped ones read as zeros.
@@ -46,33 +45,28 @@ fn converts(op: Op, kind: Kind) -> bool
     }
 }
 
-/// A page of as many zeros.
-fn zero_page(page: Page) -> Page
-    ensures { result ≡ zeroed page }
+/// The page of a part gets as many zeros as it has bytes.
+fn zero_page(part: &mut Part)
+    ensures { part.new ≡ part_zeroed part.old }
 {
-    let Page { number, bytes } = page;
-    let mut bytes = bytes.into_vec();
-    bytes.fill(0);
-    Page {
-        number,
-        bytes: Items::from_vec(bytes),
+    part.page.bytes.zero();
+}
+
+fn zero_run(parts: &mut [Part])
+    ensures { parts.new ≡ map part_zeroed parts.old }
+{
+    for part in parts.iter_mut() {
+        zero_page(part);
     }
 }
 
-/// The pages, each of as many zeros.
-fn zero_pages(pages: Pages) -> Pages
-    ensures { result.items ≡ map zeroed pages.items }
+/// The list, whose pages are each of as many zeros.
+fn zero_pages(mut pages: Parts) -> Parts
+    requires { All IsBare pages }
+    ensures { result ≡ bare_parts (map zeroed (pages_of pages)) }
 {
-    let mut all = ArrayVec::new_in(*pages.allocator());
-    let n = pages.len();
-    let mut pages = pages.into_iter();
-    for _ in 0..n {
-        let Some(page) = pages.next() else {
-            unreachable!()
-        };
-        all.push(zero_page(page));
-    }
-    all
+    zero_run(pages.as_mut_slice());
+    pages
 }
 
 /// Whether a transfer in this direction that came back has mapped blocks.
@@ -205,19 +199,20 @@ impl Range {
         seen: Sample,
         op: Op,
         block: u64,
-        pages: Pages,
+        pages: Parts,
     ) -> Result<Direct, DirectRefused>
-        requires { CanLendDirect self.old claims.old seen op block pages.items }
+        requires can { CanLendDirect self.old claims.old seen op block (pages_of pages) }
+        requires bare { All IsBare pages }
 
         // What is lent or answered, and what that leaves.
-        ensures made { OnOk result (lend_direct_refusal self.old seen op block (length pages.items) ≡ None) }
-        ensures state { OnOk result (self.new ≡ after_lend_direct self.old by seen op block (length pages.items)) }
-        ensures answer { IfOk result (λ a. a ≡ direct_answer self.old seen op block pages.items) }
+        ensures made { OnOk result (lend_direct_refusal self.old seen op block (length (pages_of pages)) ≡ None) }
+        ensures state { OnOk result (self.new ≡ after_lend_direct self.old by seen op block (length (pages_of pages))) }
+        ensures answer { IfOk result (λ a. a ≡ direct_answer self.old seen op block (pages_of pages)) }
         ensures ready { IfOk result (λ a. GoesOut op (first_kind (cells_from self.old block)) a) }
         ensures claims { IfOk result (λ a. ClaimsAnswer claims.old claims.new by op (first_kind (cells_from self.old block)) a) }
 
         // Why it is refused, and that nothing has changed then.
-        ensures refused { IfErr result (λ e. e.fault ≡ unwrap_or (lend_direct_refusal self.old seen op block (length pages.items)) NoMemory) }
+        ensures refused { IfErr result (λ e. e.fault ≡ unwrap_or (lend_direct_refusal self.old seen op block (length (pages_of pages))) NoMemory) }
         ensures pages_back { IfErr result (λ e. e.pages ≡ pages) }
         ensures unchanged { OnErr result (self.new ≡ self.old) }
         ensures unclaimed { OnErr result (claims.new ≡ claims.old) }
@@ -244,7 +239,8 @@ impl Range {
         Ok(Direct::Lent(lend_blocks(&mut self.cells, low, block, pages, away, claims)))
     }
 
-    /// Brings blocks home that were lent for a caller's own pages, and answers these pages in order. A write that did not
+    /// Brings blocks home that were lent for a caller's own pages, and answers the list of these pages, in order and with
+    /// blank sectors. A write that did not
     /// fail makes its blocks mapped. Each block is stamped: done; or, of a transfer that failed, landed for the first
     /// mapped blocks of a write, up to where it came, and missed for all others. It has no refusal and takes no memory.
     pub fn direct_back(
@@ -254,13 +250,14 @@ impl Range {
         op: Op,
         back: Lent,
         done: Done,
-    ) -> Pages
+    ) -> Parts
         requires comes { ComesBack self.old claims.old (Lender.Direct by op) op back done }
         requires cookie { self.old.cookie ≤ WORN + 65536 }
         ensures state { self.new ≡ after_direct_back self.old by op (kind_held claims.old.held) back done }
         ensures claims { claims.new ≡ released claims.old }
-        ensures pages { result.items ≡ map (λ p. p.page) back.parts.items }
-        ensures kept { KeepsPages op (pages_held claims.old.held) result.items }
+        ensures pages { pages_of result ≡ map (λ p. p.page) back.parts }
+        ensures bare { All IsBare result }
+        ensures kept { KeepsPages op (pages_held claims.old.held) (pages_of result) }
     {
         let Lent {
             ticket: _,
@@ -286,8 +283,8 @@ pub struct LendPages {
     pub seen: Sample,
     pub op: Op,
     pub block: u64,
-    /// The pages, until the turn takes them.
-    pub pages: Option<Pages>,
+    /// The list of the pages, whose sectors are blank, until the turn takes it.
+    pub pages: Option<Parts>,
 }
 
 impl Change<Range> for LendPages {
@@ -323,13 +320,13 @@ impl Change<Range> for EndDirect {
     ghost use Rattle.range_core.specs.ClaimsView.{MayTurn};
     ghost use Rattle.range_core.specs.DirectBacks.{ReadyToReturn, ReturnedDirectly};
 
-    type Out = Pages;
+    type Out = Parts;
 
     ghost ready = { λ change opening _ claims. MayTurn claims (ReadyToReturn change opening claims) };
 
     ghost does = { λ change opening history before claims later after left out entry. ReturnedDirectly change later opening history before after claims left out entry };
 
-    fn apply(&mut self, value: &mut Range, claims: &mut Claims) -> Pages {
+    fn apply(&mut self, value: &mut Range, claims: &mut Claims) -> Parts {
         let Some(back) = self.back.take() else {
             unreachable!()
         };

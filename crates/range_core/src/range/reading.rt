@@ -1,6 +1,6 @@
 //! Blocks are read into the page cache.
-ghost use Rattle.std.specs.Prelude.{◌≡◌, ◌+◌, ◌≤◌, Some, drop, length, vec_len};
-ghost use Rattle.arrayvec.specs.ArrayVec.{array_vec_len};
+ghost use Rattle.std.specs.Prelude.{◌≡◌, ◌+◌, ◌≤◌, Some, drop, length, map, vec_len};
+ghost use Rattle.iob_base.specs.Parting.{pages_of, without_page};
 ghost use Rattle.range_core.specs.Fills.{fill_run, filled_of, fills_with, paged_of};
 ghost use Rattle.range_core.specs.OnRun.{on_each};
 ghost use Rattle.range_core.specs.Refusals.{◌orElse◌, away, warm};
@@ -11,12 +11,12 @@ use crate::claims::Claims;
 use crate::fault::EventFault;
 use crate::fresh::fresh_transfer;
 use crate::leading::{Joins, leading_run, most_lent};
-use crate::lend::{Parts, bring_home, lend_blocks};
-use crate::lending::{Away, Lender, Lent, Pages};
+use crate::lend::{bring_home, lend_blocks};
+use crate::lending::{Away, Lender, Lent};
 use crate::stops::{Hinders, IsAway, IsWarm, is_cold_block};
 use fault_device::Done;
 use io_model::Kind;
-use iob_base::{Op, Page};
+use iob_base::{Op, Page, Part, Parts};
 use turn_cell::Change;
 
 /// A block is read together with one of this kind, the first of its run.
@@ -74,31 +74,30 @@ fn put_page(cell: &mut Cell, page: Page)
     cell.page = Some(page);
 }
 
-/// Gives the blocks from the place `low` on these pages.
-fn put_pages(cells: &mut Vec<Cell>, low: usize, pages: Pages)
-    requires { low + array_vec_len pages ≤ vec_len cells.old }
-    ensures { cells.new.items ≡ on_each (paged_of pages.items) 0 low (array_vec_len pages) cells.old.items }
+/// Gives the blocks from the place `low` on the pages of these parts.
+fn put_pages(cells: &mut Vec<Cell>, low: usize, parts: &mut [Part])
+    requires { low + length parts.old ≤ vec_len cells.old }
+    ensures cells { cells.new.items ≡ on_each (paged_of (pages_of parts.old)) 0 low (length parts.old) cells.old.items }
+    ensures parts { parts.new ≡ map without_page parts.old }
 {
-    let n = pages.len();
-    let mut pages = pages.into_iter();
-    for i in 0..n {
-        let Some(page) = pages.next() else {
-            unreachable!()
-        };
-        put_page(&mut cells[low + i], page);
+    let mut at = low;
+    for part in parts.iter_mut() {
+        let page = part.take_page();
+        put_page(&mut cells[at], page);
+        at += 1;
     }
 }
 
 /// Brings the sectors of a read home, to the blocks from the place `low` on, which get its pages where it did not fail.
 fn fill_run_back(cells: &mut Vec<Cell>, low: usize, parts: Parts, failed: bool)
-    requires { low + array_vec_len parts ≤ vec_len cells.old }
-    ensures { cells.new.items ≡ on_each (filled_of failed parts.items) 0 low (array_vec_len parts) cells.old.items }
+    requires { low + length parts ≤ vec_len cells.old }
+    ensures { cells.new.items ≡ on_each (filled_of failed parts) 0 low (length parts) cells.old.items }
 {
-    let pages = bring_home(cells, low, parts);
+    let mut pages = bring_home(cells, low, parts);
     if failed {
         return;
     }
-    put_pages(cells, low, pages);
+    put_pages(cells, low, pages.as_mut_slice());
 }
 
 impl Range {
@@ -150,7 +149,7 @@ impl Range {
         ensures run { OnOk result (IsColdRun self.old.cells (block - self.old.first) (fill_length self.old block blocks)) }
         ensures state { OnOk result (self.new ≡ lent_cold self.old block blocks) }
         ensures lent { IfOk result (λ lent. lent ≡ cold_loan self.old block blocks) }
-        ensures ready { IfOk result (λ lent. CanTransfer lent.parts.items) }
+        ensures ready { IfOk result (λ lent. CanTransfer lent.parts) }
         ensures claims { IfOk result (λ lent. TakesHold claims.old claims.new lent Lender.Reading (first_kind (cells_from self.old block))) }
     {
         let low = (block - self.first) as usize;

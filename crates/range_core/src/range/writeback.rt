@@ -1,23 +1,22 @@
 //! Dirty blocks are written to the device.
 ghost use Rattle.std.specs.Prelude.{◌≡◌, ◌+◌, ◌≤◌, Some, IfOk, drop, length, map, take, vec_len};
-ghost use Rattle.arrayvec.specs.ArrayVec.{array_vec_len};
+ghost use Rattle.iob_base.specs.Parting.{pages_of};
 ghost use Rattle.range_core.specs.Kinds.{is_unwritten};
 ghost use Rattle.range_core.specs.OnRun.{on_each, on_run};
 ghost use Rattle.range_core.specs.Refusals.{◌orElse◌, away, not_ready};
-ghost use Rattle.range_core.specs.Writebacks.{dirtied_cell, page_copy, raise, write_run, ended_of};
+ghost use Rattle.range_core.specs.Writebacks.{dirtied_cell, ended_of, page_copy, part_copy, raise, write_run};
 
 use super::Range;
 use crate::cell::{Cell, continues, is_unwritten_kind};
 use crate::claims::Claims;
 use crate::fault::EventFault;
 use crate::leading::{Joins, leading_run, most_lent};
-use crate::lend::{Parts, bring_home, lend_blocks, mark_run_written};
-use crate::lending::{Away, Lender, Lent, Pages};
+use crate::lend::{bring_home, lend_blocks, mark_run_written};
+use crate::lending::{Away, Lender, Lent};
 use crate::stops::{Hinders, IsAway, IsNotReady};
-use arrayvec::ArrayVec;
 use fault_device::Done;
 use io_model::Kind;
-use iob_base::{Items, Op, Page, WORN};
+use iob_base::{Items, Op, Page, Parts, WORN};
 use std::alloc::{AllocError, Global};
 use turn_cell::Change;
 
@@ -86,17 +85,27 @@ fn copy_page(alloc: Global, cell: &Cell) -> Result<Page, AllocError>
     })
 }
 
-/// Snapshots of the pages of `n` blocks from the place `low` on, for one transfer. Want of memory is the only error.
-fn copy_pages(alloc: Global, cells: &[Cell], low: usize, n: usize) -> Result<Pages, AllocError>
+/// A list of snapshots of the pages of `n` blocks from the place `low` on, whose sectors are blank. Want of memory is the
+/// only error.
+fn copy_pages(alloc: Global, cells: &[Cell], low: usize, n: usize) -> Result<Parts, AllocError>
     requires within { low + n ≤ length cells.now }
     requires few { n ≤ 16 }
-    ensures { IfOk result (λ pages. pages.items ≡ map page_copy (take n (drop low cells.now))) }
+    ensures { IfOk result (λ pages. pages_of pages ≡ map page_copy (take n (drop low cells.now))) }
 {
-    let mut pages = ArrayVec::new_in(alloc);
-    for i in 0..n {
-        pages.push(copy_page(alloc, &cells[low + i])?);
-    }
+    let pages = copy_parts(alloc, cells, low, n)?;
     Ok(pages)
+}
+
+fn copy_parts(alloc: Global, cells: &[Cell], low: usize, n: usize) -> Result<Parts, AllocError>
+    requires within { low + n ≤ length cells.now }
+    requires few { n ≤ 16 }
+    ensures { IfOk result (λ parts. parts ≡ map part_copy (take n (drop low cells.now))) }
+{
+    let mut parts = Parts::new(alloc)?;
+    for i in 0..n {
+        parts.push_page(copy_page(alloc, &cells[low + i])?);
+    }
+    Ok(parts)
 }
 
 fn mark_dirty(cell: &mut Cell)
@@ -117,8 +126,8 @@ fn mark_run_dirty(cells: &mut Vec<Cell>, low: usize, n: usize)
 /// Brings the sectors of a write home, to the blocks from the place `low` on: these are mapped where it did not fail, and
 /// dirty where it failed.
 fn write_run_back(cells: &mut Vec<Cell>, low: usize, parts: Parts, failed: bool)
-    requires { low + array_vec_len parts ≤ vec_len cells.old }
-    ensures { cells.new.items ≡ on_each (ended_of failed parts.items) 0 low (array_vec_len parts) cells.old.items }
+    requires { low + length parts ≤ vec_len cells.old }
+    ensures { cells.new.items ≡ on_each (ended_of failed parts) 0 low (length parts) cells.old.items }
 {
     let n = parts.len();
     let _ = bring_home(cells, low, parts);
@@ -197,7 +206,7 @@ impl Range {
         ensures run { OnOk result (IsDirtyRun self.old.cells (block - self.old.first) (write_length self.old block blocks)) }
         ensures state { OnOk result (self.new ≡ lent_dirty self.old block blocks) }
         ensures lent { IfOk result (λ lent. lent ≡ dirty_loan self.old block blocks) }
-        ensures ready { IfOk result (λ lent. CanTransfer lent.parts.items) }
+        ensures ready { IfOk result (λ lent. CanTransfer lent.parts) }
         ensures claims { IfOk result (λ lent. TakesHold claims.old claims.new lent Lender.Writeback (first_kind (cells_from self.old block))) }
     {
         let low = (block - self.first) as usize;

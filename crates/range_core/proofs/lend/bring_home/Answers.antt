@@ -1,37 +1,31 @@
-use Rattle.std.proofs.Common.{ℕ, ◌+◌, ◌<◌, ◌++◌, List, length, map, arith, refl, ap}
+use Rattle.std.proofs.Common.{◌≡◌, List, length, map, All, arith, sym, ap, ◌∙◌, subst}
+use Rattle.std.specs.List.{refill}
+use Rattle.std.proofs.lemmas.List.{length-map}
+use Rattle.iob_base.specs.Parting.{IsBare, pages_of, without_sector}
 use Rattle.iob_base.specs.declared.part.Part.{Part}
+use Rattle.iob_base.proofs.PartLemmas.{pages_of-without, without-bare}
 use Rattle.range_core.specs.Lends.{home_of}
-use Rattle.range_core.specs.declared.cell.Cell.{Cell}
-use Rattle.range_core.proofs.LendLemmas.{home_at, next_item, pages_more}
-use Rattle.range_core.proofs.OnRunLemmas.{each_more, on_each-none}
+use Rattle.range_core.specs.OnRun.{on_each}
+use Rattle.range_core.proofs.NowLemmas.{refill-whole}
 use Rattle.range_core.proofs.lend.bring_home.Goals as goal
 
-pub loop-i-init : goal.loop-i-init
-loop-i-init c = record {
-  ready = (tt, tt);
-  cells = on_each-none (home_of c.into_iter-parts.result) 0 c.args.low c.args.cells.now.items;
-  many = refl;
-  rest = refl;
-  made = ap length c.new_in-pages.ensures;
-  pages = ap (λ ps. ps ++ map (λ (p : Part). p.page) c.into_iter-parts.result) c.new_in-pages.ensures;
-}
+pub put_home-requires : goal.put_home-requires
+put_home-requires c = omega (arith, ap length c.as_mut_slice.ensures.value, c.requires)
 
-pub loop-i-preserved : goal.loop-i-preserved
-loop-i-preserved c =
-    let low : ℕ = c.args.low in
-    let i : ℕ = c.loop-i.i in
-    let first : List Cell = c.args.cells.now.items in
-    let now : List Cell = c.loop-i.cells.items in
-    let cell : Cell = c.index_mut.result.now in
-    let inv = c.loop-i.invariant in
-    let within : low + i < length first = omega (arith, c.args.cells.now.ok.0, c.requires) in
-    let next = next_item c.into_iter-parts.result c.loop-i.parts c.next.new.self i c.in-Some.part inv.rest c.in-Some.ensures.steps in
-    record {
-      ready = (tt, tt);
-      cells = each_more (home_of c.into_iter-parts.result) low i first now cell c.put_sector.new.cell inv.cells c.index_mut.ensures.value within
-          (home_at c.into_iter-parts.result i c.in-Some.part cell c.put_sector.new.cell next.0 c.put_sector.ensures);
-      many = inv.many;
-      rest = next.1;
-      made = omega (arith, c.push.ensures.len, inv.made);
-      pages = pages_more c.loop-i.parts c.next.new.self c.in-Some.part c.loop-i.pages.items c.push.new.self.items _ c.in-Some.ensures.steps c.push.ensures.items inv.pages;
-    }
+pub returns-clause-cells : goal.returns-clause-cells
+returns-clause-cells c =
+    c.put_home.ensures.cells ∙ ap (λ (ps : List Part). on_each (home_of ps) 0 c.args.low (length ps) c.args.cells.now.items) c.as_mut_slice.ensures.value
+
+-- the list that is left, once it is written back
+left_is : (parts written old : List Part) → old ≡ parts → written ≡ map without_sector old → refill (length parts) parts written ≡ map without_sector parts
+left_is parts written old same is =
+    let emptied : written ≡ map without_sector parts = is ∙ ap (map without_sector) same in
+    refill-whole parts written (ap length emptied ∙ length-map parts without_sector) ∙ emptied
+
+pub returns-clause-pages : goal.returns-clause-pages
+returns-clause-pages c = ap pages_of (left_is c.args.parts c.put_home.new.parts _ c.as_mut_slice.ensures.value c.put_home.ensures.parts) ∙ pages_of-without c.args.parts
+
+pub returns-clause-bare : goal.returns-clause-bare
+returns-clause-bare c =
+    let B : List Part → Type 0 = All IsBare in
+    subst B (sym (left_is c.args.parts c.put_home.new.parts _ c.as_mut_slice.ensures.value c.put_home.ensures.parts)) (without-bare c.args.parts)

@@ -16,7 +16,7 @@ pub invariant_of-self : goal.invariant_of-self
 invariant_of-self c =
     let r = c.self.inside in
     let h : Held = c.requires.claim in
-    let parts : List Part = c.args.back.parts.items in
+    let parts : List Part = c.args.back.parts in
     let before : RangeView = range_view r.geometry r.mode r.first r.cells.items r.log.items r.cookie r.errors r.tickets (seat_view r.seat) (seat_claims r.seat).facts in
     let O : RangeView → Type 0 = λ v. AreOut v h in
     let out : AreOut before h = subst O (sym c.self.view_is) c.requires.out in

@@ -1,11 +1,6 @@
-use Rattle.std.proofs.Common.{◌≡◌, ◌+◌, ◌++◌, length, map}
-use Rattle.range_core.specs.DirectLends.{zeroed}
-use Rattle.range_core.proofs.range.direct.zero_pages.Given as goal
+use Rattle.std.proofs.Common.{◌≡◌, ◌++◌, map, take, drop}
+use Rattle.range_core.specs.DirectLends.{part_zeroed}
+use Rattle.range_core.proofs.range.direct.zero_run.Given as goal
 
-abbrev pub invariant-loop : goal.invariant-loop
-invariant-loop l = record {
-  ready : (goal.iterator-loop).can_next l.pages × (goal.iterator-loop).is_finite l.pages;
-  left : l.counter + length l.pages ≡ length l.initial.pages;
-  made : length l.all.items ≡ l.counter;
-  pages : l.all.items ++ map zeroed l.pages ≡ map zeroed l.initial.pages;
-}
+abbrev pub invariant-loop-part : goal.invariant-loop-part
+invariant-loop-part l = l.parts ≡ map part_zeroed (take l.part-index l.initial.parts) ++ drop l.part-index l.initial.parts

@@ -20,4 +20,4 @@ returns c s =
     let e = c.direct_back.ensures in
     turned_back s.opening c.args.value.now s.history s.stakes s.number c.args.claims.now s.made change c.in-Some.back s.stands.holds (works s.stands.here s.is_ready.own) s.is_ready.may (sym c.take.ensures.value ∙ c.in-Some.is) _ _ _ c.direct_back.result
     (ap (λ (o : Option Lent). record change { back = o }) c.take.ensures.after)
-    (record { state = e.state; claims_are = e.claims; pages_are = e.pages; kept = e.kept })
+    (record { state = e.state; claims_are = e.claims; pages_are = e.pages; bare = e.bare; kept = e.kept })
