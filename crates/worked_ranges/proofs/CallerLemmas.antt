@@ -41,7 +41,7 @@ goes_on cell before after claims left sample loan was on same = record {
 }
 
 pub takes : (cell : CellView RangeView) (before after : SeatView Entry) (claims left : ClaimsView) (sample : Option Sample) (loan : Option (Lender × Lent)) (lender : Lender) (lent : Lent) (kind : Kind) → IsCaller cell before claims sample loan
-    → GoesOn before after → TakesHold claims left lent lender kind → CanTransfer lent.parts.items → LiesAt cell.opening lent.block (length lent.parts.items) → IsCaller cell after left sample (Some (lender, lent))
+    → GoesOn before after → TakesHold claims left lent lender kind → CanTransfer lent.parts → LiesAt cell.opening lent.block (length lent.parts) → IsCaller cell after left sample (Some (lender, lent))
 takes cell before after claims left sample loan lender lent kind was on t ready lies = record {
   at_cell = on.cell ∙ was.at_cell;
   given = still_given before after sample on was.given;

@@ -1,2 +1,3 @@
 mod CallerLemmas
 mod SmallOpening
+mod WholeParts

@@ -1,6 +1,9 @@
 -- A range of six blocks at a cell, and its callers.
 use Rattle.std.specs.Prelude.{◌≡◌, ℕ, Option, Some, None, IfSome, List, [], ◌∷◌, length, true}
 use Rattle.iob_base.specs.declared.stamp.Mode.{Mode}
+use Rattle.iob_base.specs.Parting.{IsBare}
+use Rattle.iob_base.specs.declared.part.Part.{Part}
+use Rattle.range_core.specs.BlockTruth.{IsWholePage}
 use Rattle.fault_device.specs.Transfer.{CanTransfer}
 use Rattle.io_model.specs.declared.file.Extent.{Extent}
 use Rattle.io_model.specs.declared.file.Kind.TheVariants.{Mapped, Unwritten}
@@ -34,14 +37,19 @@ pub record IsGround (mode : Mode) (cell : CellView RangeView) (pool : CellView P
   pub small : IsSmall mode cell.opening
   pub pool_is : cell.opening.seat.cell ≡ pool.cell
 
+-- a part of a small range's own size that has no block
+pub record IsWholeAndBare (p : Part) : Type 0 where
+  pub whole : IsWholePage 16 p.page
+  pub bare : IsBare p
+
 -- a seat claims what was lent to it for this, which a transfer can move
 pub record IsLentFor (opening : RangeView) (claims : ClaimsView) (lender : Lender) (lent : Lent) : Type 0 where
   pub claim : Held
   pub held : claims.held ≡ Some claim
   pub lent_is : claim.lent.value ≡ lent
   pub lender_is : claim.lender ≡ lender
-  pub ready : CanTransfer lent.parts.items
-  pub lies : LiesAt opening lent.block (length lent.parts.items)
+  pub ready : CanTransfer lent.parts
+  pub lies : LiesAt opening lent.block (length lent.parts)
 
 -- it claims exactly that, or nothing
 abbrev pub Holds : RangeView → ClaimsView → Option (Lender × Lent) → Type 0

@@ -2,16 +2,17 @@
 ghost use Rattle.std.specs.Prelude.{◌≡◌, ◌+◌, ◌<◌, ◌≤◌, Some, None, All, IfOk, OnErr, length, nat_lt};
 ghost use Rattle.arrayvec.specs.ArrayVec.{array_vec_len};
 ghost use Rattle.fault_device.specs.Transfer.{CanTransfer};
+ghost use Rattle.iob_base.specs.Parting.{IsBare, pages_of};
 ghost use Rattle.range_core.specs.BlockTruth.{IsWholePage};
 ghost use Rattle.range_core.specs.DirectLends.{CanTake};
 ghost use Rattle.range_core.specs.Returning.{parts_after};
-ghost use Rattle.worked_ranges.specs.SmallRanges.{Stands};
+ghost use Rattle.worked_ranges.specs.SmallRanges.{IsWholeAndBare, Stands};
 
 use crate::range_caller::Caller;
 use arrayvec::ArrayVec;
 use fault_device::{Done, Lane, can_transfer};
 use io_model::{Extent, Kind};
-use iob_base::{Items, Op, Page, Tag};
+use iob_base::{Items, Op, Page, Parts, Tag};
 use range_core::{
     Direct, DirectRefused, EndDirect, EndWriteback, EventFault, FillPages, LendCold, LendDirty,
     LendPages, Lender, Lent, Pages, ReadNow,
@@ -28,7 +29,7 @@ pub(crate) enum Loan {
         block: u64,
         blocks: usize,
     },
-    Zeros(Pages),
+    Zeros(Parts),
 }
 
 /// So many blocks were read into the first of these pages.
@@ -38,9 +39,16 @@ pub(crate) struct Now {
     pub(crate) pages: Pages,
 }
 
-/// Why a turn for pages of the caller's own was refused, and these pages.
+/// Why a loan for pages of the caller's own was refused, and the list of these pages.
 #[derive(Drop)]
 pub(crate) struct Refused {
+    pub(crate) fault: EventFault,
+    pub(crate) pages: Parts,
+}
+
+/// Why a read past the cache was refused, and the pages for it.
+#[derive(Drop)]
+pub(crate) struct Unread {
     pub(crate) fault: EventFault,
     pub(crate) pages: Pages,
 }
@@ -50,7 +58,7 @@ pub(crate) struct Refused {
 pub(crate) struct Back {
     pub(crate) done: Done,
     pub(crate) written: Option<u64>,
-    pub(crate) pages: Option<Pages>,
+    pub(crate) pages: Option<Parts>,
 }
 
 fn page_of(alloc: Global, number: u64, fill: u8) -> Result<Page, AllocError>
@@ -64,7 +72,7 @@ fn page_of(alloc: Global, number: u64, fill: u8) -> Result<Page, AllocError>
 }
 
 // Pages that are filled with these bytes, one each.
-fn pages_of(alloc: Global, fills: &[u8]) -> Result<Pages, AllocError>
+fn plain_pages(alloc: Global, fills: &[u8]) -> Result<Pages, AllocError>
     requires { length fills.now ≤ 6 }
     ensures count { IfOk result (λ pages. array_vec_len pages ≡ length fills.now) }
     ensures whole { IfOk result (λ pages. All (IsWholePage 16) pages.items) }
@@ -74,6 +82,29 @@ fn pages_of(alloc: Global, fills: &[u8]) -> Result<Pages, AllocError>
         pages.push(page_of(alloc, i as u64, fills[i])?);
     }
     Ok(pages)
+}
+
+// The same as a list whose sectors are blank.
+fn list_of(alloc: Global, fills: &[u8]) -> Result<Parts, AllocError>
+    requires { length fills.now ≤ 6 }
+    ensures count { IfOk result (λ parts. length (pages_of parts) ≡ length fills.now) }
+    ensures whole { IfOk result (λ parts. All (IsWholePage 16) (pages_of parts)) }
+    ensures bare { IfOk result (λ parts. All IsBare parts) }
+{
+    let parts = fill_list(alloc, fills)?;
+    Ok(parts)
+}
+
+fn fill_list(alloc: Global, fills: &[u8]) -> Result<Parts, AllocError>
+    requires { length fills.now ≤ 6 }
+    ensures count { IfOk result (λ parts. length parts ≡ length fills.now) }
+    ensures whole { IfOk result (λ parts. All IsWholeAndBare parts) }
+{
+    let mut parts = Parts::new(alloc)?;
+    for i in 0..fills.len() {
+        parts.push_page(page_of(alloc, i as u64, fills[i])?);
+    }
+    Ok(parts)
 }
 
 fn ticket_of(lent: &Lent) -> Loan {
@@ -86,12 +117,12 @@ fn ticket_of(lent: &Lent) -> Loan {
 
 // The transfer of what was lent.
 fn carry(lane: &mut Lane, op: Op, lent: &mut Lent) -> Done
-    requires { CanTransfer lent.old.parts.items }
+    requires { CanTransfer lent.old.parts }
     ensures ticket { lent.new.ticket ≡ lent.old.ticket }
     ensures block { lent.new.block ≡ lent.old.block }
-    ensures parts { lent.new.parts.items ≡ parts_after op result.landed lent.old.parts.items }
-    ensures landed { result.landed ≤ length lent.old.parts.items }
-    ensures failed { result.failed ≡ nat_lt result.landed (length lent.old.parts.items) }
+    ensures parts { lent.new.parts ≡ parts_after op result.landed lent.old.parts }
+    ensures landed { result.landed ≤ length lent.old.parts }
+    ensures failed { result.failed ≡ nat_lt result.landed (length lent.old.parts) }
 {
     match op {
         Op::Read => lane.read(lent.parts.as_mut_slice()),
@@ -102,9 +133,9 @@ fn carry(lane: &mut Lane, op: Op, lent: &mut Lent) -> Done
 impl<'a, R: Abort + Wait> Caller<'a, R> {
     // Blocks of the range with parts for one transfer.
     fn expect_loan(&self, lent: &Lent)
-        ensures some { 0 < length lent.now.parts.items }
-        ensures within { lent.now.block + length lent.now.parts.items ≤ 6 }
-        ensures ready { CanTransfer lent.now.parts.items }
+        ensures some { 0 < length lent.now.parts }
+        ensures within { lent.now.block + length lent.now.parts ≤ 6 }
+        ensures ready { CanTransfer lent.now.parts }
     {
         self.expect_run(lent.block, lent.parts.len() as u64);
         assert!(self.rt;
@@ -179,9 +210,10 @@ impl<'a, R: Abort + Wait> Caller<'a, R> {
     }
 
     // The turn that asks for blocks of the sample for these pages. What is lent is kept.
-    fn lend_pages(&mut self, op: Op, block: u64, pages: Pages) -> Result<Loan, Refused>
+    fn lend_pages(&mut self, op: Op, block: u64, pages: Parts) -> Result<Loan, Refused>
         requires stands { Stands self.old.ground.now.cell self.old.seat self.old.sample self.old.loan }
-        requires whole { All (IsWholePage 16) pages.items }
+        requires whole { All (IsWholePage 16) (pages_of pages) }
+        requires bare { All IsBare pages }
         ensures stands { Stands self.new.ground.now.cell self.new.seat self.new.sample self.new.loan }
     {
         let seen = self.seen();
@@ -221,7 +253,7 @@ impl<'a, R: Abort + Wait> Caller<'a, R> {
         ensures stands { Stands self.new.ground.now.cell self.new.seat self.new.sample self.new.loan }
     {
         assert!(self.rt; fills.len() <= 6, "pages for blocks of the range");
-        let pages = pages_of(self.alloc, fills)?;
+        let pages = list_of(self.alloc, fills)?;
         Ok(self.lend_pages(op, block, pages))
     }
 
@@ -330,15 +362,15 @@ impl<'a, R: Abort + Wait> Caller<'a, R> {
         lane: &mut Lane,
         block: u64,
         fills: &[u8],
-    ) -> Result<Result<Now, Refused>, AllocError>
+    ) -> Result<Result<Now, Unread>, AllocError>
         requires stands { Stands self.old.ground.now.cell self.old.seat self.old.sample self.old.loan }
         ensures stands { Stands self.new.ground.now.cell self.new.seat self.new.sample self.new.loan }
     {
         assert!(self.rt; fills.len() <= 6, "pages for blocks of the range");
-        let mut pages = pages_of(self.alloc, fills)?;
+        let mut pages = plain_pages(self.alloc, fills)?;
         match self.read_turn(lane, block, &mut pages) {
             Ok(blocks) => Ok(Ok(Now { blocks, pages })),
-            Err(fault) => Ok(Err(Refused { fault, pages })),
+            Err(fault) => Ok(Err(Unread { fault, pages })),
         }
     }
 }

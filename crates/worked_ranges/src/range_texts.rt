@@ -1,8 +1,8 @@
 //! Answers of a range as text.
-use crate::range_loans::{Back, Loan, Now, Refused};
+use crate::range_loans::{Back, Loan, Now, Refused, Unread};
 use fault_device::Done;
 use io_model::{Extent, Kind};
-use range_core::Pages;
+use iob_base::{Page, Part};
 use range_core::{EventFault, Sample};
 use std::alloc::{AllocError, Global};
 
@@ -60,11 +60,22 @@ impl Told for Vec<u8> {
     }
 }
 
-// The bytes of pages, with a bar before each.
-fn add_pages(text: &mut String, pages: &Pages) -> Result<(), AllocError> {
-    for page in pages.as_slice() {
-        text.push_str(" | ")?;
-        add_bytes(text, page.bytes.as_slice())?;
+// The bytes of a page, after a bar.
+fn add_page(text: &mut String, page: &Page) -> Result<(), AllocError> {
+    text.push_str(" | ")?;
+    add_bytes(text, page.bytes.as_slice())
+}
+
+fn add_pages(text: &mut String, pages: &[Page]) -> Result<(), AllocError> {
+    for page in pages {
+        add_page(text, page)?;
+    }
+    Ok(())
+}
+
+fn add_parts(text: &mut String, parts: &[Part]) -> Result<(), AllocError> {
+    for part in parts {
+        add_page(text, &part.page)?;
     }
     Ok(())
 }
@@ -73,7 +84,16 @@ impl Told for Refused {
     fn told(&self, alloc: Global) -> Result<String, AllocError> {
         let Refused { fault, pages } = self;
         let mut text = fault.told(alloc)?;
-        add_pages(&mut text, pages)?;
+        add_parts(&mut text, pages.as_slice())?;
+        Ok(text)
+    }
+}
+
+impl Told for Unread {
+    fn told(&self, alloc: Global) -> Result<String, AllocError> {
+        let Unread { fault, pages } = self;
+        let mut text = fault.told(alloc)?;
+        add_pages(&mut text, pages.as_slice())?;
         Ok(text)
     }
 }
@@ -115,7 +135,7 @@ impl Told for Loan {
             } => format!(in alloc; "ticket {ticket}, {block}+{blocks}"),
             Loan::Zeros(pages) => {
                 let mut text = String::from_str(alloc, "zeros")?;
-                add_pages(&mut text, pages)?;
+                add_parts(&mut text, pages.as_slice())?;
                 Ok(text)
             }
         }
@@ -141,7 +161,7 @@ impl Told for Back {
             text.push_str(written.as_str())?;
         }
         if let Some(pages) = &self.pages {
-            add_pages(&mut text, pages)?;
+            add_parts(&mut text, pages.as_slice())?;
         }
         Ok(text)
     }
@@ -151,7 +171,7 @@ impl Told for Now {
     fn told(&self, alloc: Global) -> Result<String, AllocError> {
         let Now { blocks, pages } = self;
         let mut text = format!(in alloc; "read {blocks}")?;
-        add_pages(&mut text, pages)?;
+        add_pages(&mut text, pages.as_slice())?;
         Ok(text)
     }
 }
