@@ -1,6 +1,7 @@
 use Rattle.std.specs.Prelude.{ℕ, Bool, true, false, ◌&&◌, ◌==◌, nat_le, nat_lt, ◌+◌, ◌/◌, List, [], ◌∷◌, Option, Some, None, is_some, if◌then◌else◌}
 use Rattle.std.specs.List.{list_all}
 use Rattle.std.specs.Option.{option_map}
+use Rattle.iob_base.specs.Layout.{Layout}
 use Rattle.iob_base.specs.declared.stamp.Mode.{Mode}
 use Rattle.iob_base.specs.declared.stamp.Mode.TheVariants.{Cached, Dax}
 use Rattle.io_model.specs.declared.file.Extent.{Extent}
@@ -96,14 +97,18 @@ file_of file = provided (is_cached file.mode && (is_few file.blocks && is_unsize
 abbrev pub job_with : Script → ℕ → Extent → Asked → Job
 job_with script blocks extent asked = record { device = device_of script; geometry = script.geometry; blocks = blocks; extent = extent; asked = asked }
 
+-- direct calls go by whole blocks
+abbrev pub is_coarse : Layout → Bool
+is_coarse sizes = sizes.grain == sizes.block_size
+
 -- the device, the extent and the range of the one form
 abbrev pub is_form : Script → ℕ → Extent → Asked → Bool
 is_form script blocks extent asked =
-    is_few script.device_blocks && (list_all (is_whole (device_of script)) script.blocks
+    is_coarse script.geometry && (is_few script.device_blocks && (list_all (is_whole (device_of script)) script.blocks
     && (lies_on blocks script.device_blocks extent
-    && (nat_le 1 asked.length && is_in_one_folio script.geometry.block_size script.geometry.folio_blocks extent asked)))
+    && (nat_le 1 asked.length && is_in_one_folio script.geometry.block_size script.geometry.folio_blocks extent asked))))
 
--- the job of a script of the one form that is built: one cached file with one mapped extent, no fault lines, and one read by caller 0 in the first phase, whose range lies in the extent and in one folio and meets at most 16 blocks
+-- the job of a script of the one form that is built: a grain of whole blocks, one cached file without a size and with one mapped extent, no fault lines, and one read by caller 0 in the first phase, whose range lies in the extent and in one folio and meets at most 16 blocks
 abbrev pub job_of : Script → Option Job
 job_of script = do
   name ← provided (is_bare script.faults) (only script.names)

@@ -155,6 +155,9 @@ fn has_form(script: &Script, blocks: u64, extent: &Extent, asked: &Asked) -> boo
     ensures shape { result ≡ true → IsShape (device_said script.now) script.now.geometry blocks extent.now asked.now }
     ensures whole { result ≡ true → list_all (is_whole (device_said script.now)) script.now.blocks ≡ true }
 {
+    if script.geometry.grain() != script.geometry.block_size() {
+        return false;
+    }
     let device = device_of(script);
     if !is_few_blocks(u64::from(device.blocks)) {
         return false;

@@ -59,7 +59,21 @@ const TWO_FOLIOS: &[u8] =
 const PAST_THE_EXTENT: &[u8] =
     b"iomap 1\ndev 16 4 c3\nfolio 2\nfile f cached 4\next f 0 0 1 mapped\nphase\n0 pread f 15 2\n";
 
-const ROWS: [Row; 19] = [
+// Scripts of that form but for a size, a cut, and a grain below the block size.
+const A_SIZE: &[u8] =
+    b"iomap 1\ndev 16 8 ee\nfolio 4\nfile f cached 4\nsize f 64\next f 0 2 1 mapped\nphase\n0 pread f 0 16\n";
+
+const A_CUT: &[u8] =
+    b"iomap 1\ndev 16 8 ee\nfolio 4\nfile f cached 4\nsize f 64\next f 0 2 1 mapped\nphase\n0 trunc f 0\n";
+
+const A_FINE_GRAIN: &[u8] =
+    b"iomap 2\ndev 32 8 ee\nfolio 4\ngrain 16\nfile f cached 4\next f 0 2 1 mapped\nphase\n0 pread f 0 16\n";
+
+// The second version, whose grain is the block size.
+const A_WHOLE_GRAIN: &[u8] =
+    b"iomap 2\ndev 16 8 ee\nfolio 4\ngrain 16\nfile f cached 4\next f 0 2 1 mapped\nphase\n0 pread f 0 16\n";
+
+const ROWS: [Row; 23] = [
     Row {
         script: OWN_BYTES,
         words: &[],
@@ -231,6 +245,42 @@ const ROWS: [Row; 19] = [
         transfers_fail: &[],
         status: 2,
         written: b"refused line 0 cause 14 NotYet\n",
+    },
+    Row {
+        script: A_SIZE,
+        words: &[],
+        source_fails: &[],
+        sink_fails: &[],
+        transfers_fail: &[],
+        status: 2,
+        written: b"refused line 0 cause 14 NotYet\n",
+    },
+    Row {
+        script: A_CUT,
+        words: &[],
+        source_fails: &[],
+        sink_fails: &[],
+        transfers_fail: &[],
+        status: 2,
+        written: b"refused line 0 cause 14 NotYet\n",
+    },
+    Row {
+        script: A_FINE_GRAIN,
+        words: &[],
+        source_fails: &[],
+        sink_fails: &[],
+        transfers_fail: &[],
+        status: 2,
+        written: b"refused line 0 cause 14 NotYet\n",
+    },
+    Row {
+        script: A_WHOLE_GRAIN,
+        words: &[],
+        source_fails: &[],
+        sink_fails: &[],
+        transfers_fail: &[],
+        status: 0,
+        written: b"run 1\ncall 1 0 pread ok 16 eeeeeeeeeeeeeeeeeeeeeeeeeeeeeeee bios 1\nclose f ok 0 bios 0\njournal f 0 1\nmap f 0 1 mapped 2\nfree 7\nbios 1\nlane 0 ops 1 faults 0\nend\n",
     },
 ];
 
