@@ -27,6 +27,7 @@ pub mod DaxWriteThatFailsMapsNothing
 pub mod TwoFaultsTwoReplies
 pub mod DirectReadFailsInItsSecondBio
 pub mod SizesCutAndGrow
+pub mod SizeTexts
 pub mod TruncatePastTheEndIsRefused
 pub mod DirectWriteBelowTheBlock
 pub mod PartOfAMappedBlockIsKept

@@ -24,6 +24,7 @@ ghost use Rattle.io_model.specs.RunText.{run_text, page_runs, runs_text};
 mod owed;
 mod refusals;
 mod rows;
+mod sizes;
 
 /// A read of one mapped block gives the block's bytes, and leaves one stamp there.
 #[tactic(auto, unfolding(crate::specs::Rows::Parts::printed))]
