@@ -7,7 +7,7 @@ use Rattle.turn_cell.specs.Laws.{Stands}
 use Rattle.turn_cell.proofs.Sums.{total-set, total-at}
 use Rattle.size_core.specs.ClaimsView.{ClaimsView, MayMerge, merged_claims, next_claims, rest_claims, same_claims}
 use Rattle.size_core.specs.History.{stamps_of, stamps_in}
-use Rattle.size_core.specs.Replay.{replayed_size, sees_replayed}
+use Rattle.io_model.specs.Sizes.{replayed_size, sees_replayed}
 use Rattle.size_core.specs.SizesView.{SizesView, CanUse}
 use Rattle.size_core.specs.SizeTruth.{SizeStake, SizeTruth, rooms}
 use Rattle.size_core.specs.declared.entry.SizeEntry.{SizeEntry}

@@ -2,7 +2,7 @@
 use Rattle.std.proofs.Common.{◌≡◌, ℕ, Bool, true, false, List, [], ◌∷◌, ◌++◌, refl, sym, ap, ◌∙◌, append_assoc, append-nil}
 use Rattle.std.specs.Prelude.{◌&&◌}
 use Rattle.size_core.specs.History.{stamps_of, stamps_in}
-use Rattle.size_core.specs.Replay.{size_after, replayed_size, found_is, sees_replayed}
+use Rattle.io_model.specs.Sizes.{size_after, replayed_size, found_is, sees_replayed}
 use Rattle.size_core.specs.declared.entry.SizeEntry.{SizeEntry}
 use Rattle.io_model.specs.declared.file.SizeStamp.{SizeStamp}
 

@@ -1,5 +1,4 @@
 pub mod ClaimsView
-pub mod Replay
 pub mod SizesView
 pub mod History
 pub mod SizeTruth

@@ -3,7 +3,7 @@ use Rattle.std.specs.Prelude.{◌≡◌, ℕ, ◌+◌, ◌<◌, ◌≤◌, ◌^�
 use Rattle.turn_cell.specs.Stakes.{Stake, total}
 use Rattle.size_core.specs.ClaimsView.{ClaimsView}
 use Rattle.size_core.specs.History.{stamps_in, one_where, made_as}
-use Rattle.size_core.specs.Replay.{replayed_size, sees_replayed}
+use Rattle.io_model.specs.Sizes.{replayed_size, sees_replayed}
 use Rattle.size_core.specs.SizesView.{SizesView}
 use Rattle.size_core.specs.declared.entry.SizeEntry.{SizeEntry}
 

@@ -3,7 +3,7 @@ use Rattle.std.specs.Prelude.{◌≡◌, ℕ, List, Result, OnOk, OnErr, IfOk}
 use Rattle.std.specs.declared.alloc.AllocError.{AllocError}
 use Rattle.size_core.specs.ClaimsView.{ClaimsView, with_room, without_room}
 use Rattle.size_core.specs.History.{stamps_in}
-use Rattle.size_core.specs.Replay.{replayed_size}
+use Rattle.io_model.specs.Sizes.{replayed_size}
 use Rattle.size_core.specs.SizesView.{SizesView, seen_by, made_ready, grown_by, cut_by, forgotten}
 use Rattle.size_core.specs.declared.entry.SizeEntry.{SizeEntry}
 use Rattle.size_core.specs.declared.entry.SizeEvent.{SizeEvent}
