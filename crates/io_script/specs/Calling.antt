@@ -1,8 +1,7 @@
-use Rattle.std.specs.Prelude.{◌≡◌, ℕ, ◌+◌, ◌≤◌, Bool, true, false, ◌||◌, nat_le, nat_lt, ◌*◌, ◌<◌, [], ◌∷◌, ◌++◌, min, length, Option, Some, None}
+use Rattle.std.specs.Prelude.{◌≡◌, ℕ, ◌+◌, ◌≤◌, Bool, true, false, ◌||◌, nat_le, nat_lt, ◌<◌, [], ◌∷◌, ◌++◌, length, Option, Some, None}
 use Rattle.io_model.specs.declared.script.Call.{Call}
 use Rattle.io_script.specs.GrammarCalls.{shape_of, sizes_of, read_by, written_by, asked_in, met_by, pages_of, blocks_named}
 use Rattle.io_script.specs.GrammarLines.{is_no_file, file_named, has_size}
-use Rattle.io_script.specs.GrammarNumbers.{value_of}
 use Rattle.io_script.specs.GrammarWords.{Fields}
 use Rattle.io_script.specs.SoFar.{SoFar, file_at}
 use Rattle.io_script.specs.declared.read.calls.Totals.{Totals}
