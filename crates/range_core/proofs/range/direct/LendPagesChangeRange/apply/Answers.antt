@@ -7,7 +7,7 @@ use Rattle.range_core.proofs.StakeTruth.{works}
 pub lend_direct-requires-clause-bare : goal.lend_direct-requires-clause-bare
 lend_direct-requires-clause-bare c =
     let s = c.requires in
-    bare_ready s.opening s.seen c.args.claims.now c.args.self.now c.in-Some.pages s.is_ready (sym c.take.ensures.value ∙ c.in-Some.is)
+    bare_ready s.opening s.seen c.args.claims.now c.args.self.now c.in-Some.pages s.is_ready.may (sym c.take.ensures.value ∙ c.in-Some.is)
 
 pub lend_direct-requires-clause-can : goal.lend_direct-requires-clause-can
 lend_direct-requires-clause-can c =

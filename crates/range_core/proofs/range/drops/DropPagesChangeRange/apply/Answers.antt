@@ -45,7 +45,7 @@ returns c s =
           (λ i old x there at.
           let b : ℕ = s.opening.first + i in
           let first = s.stands.holds.same_run.first in
-          let begins = s.is_ready.low in
+          let begins = s.is_ready.may.low in
           let S : Cell → Type 0 = λ y. state_of y ≡ state_after s.opening.geometry.block_size b (state_of old) entry in
           ⊎_elim
           (λ (e : IsInRun drops 0 low run.blocks i old x). let low_is = e.low_is in let high = e.high in subst S (sym e.is) (dropped-state old (in_run run.block run.blocks b) (in_run-true run.block run.blocks b (omega arith) (omega arith))))

@@ -39,7 +39,7 @@ returns c s =
         entry_is = refl;
       };
       holds = quiet_truth s.opening was s.history entry s.stakes s.number claims s.made s.stands.holds (works s.stands.here s.is_ready.own)
-          (record { content = λ b x. refl; state = λ b x. refl; failed = refl; lent = refl; changed = refl; stamps = refl })
+          (record { content = λ b x. refl; state = λ b x. refl; failed = refl; lent = refl; changed = refl; stamps = refl; found = λ b s. refl })
           (present_sample was change.block change.most found.sample (omega (arith, lies.low, s.stands.holds.same_run.first)) is)
           refl;
     }
