@@ -1,8 +1,6 @@
 -- The range truth after an entry that changes pages and dirty bits of the blocks of a run of bytes, and leaves a stamp on each.
 use Rattle.std.proofs.Common.{◌≡◌, ℕ, ◌+◌, ◌-◌, ◌<◌, ◌≤◌, false, Some, List, [], ◌∷◌, ◌++◌, set, refl, sym, ◌∙◌, ap, arith}
 use Rattle.std.specs.Prelude.{slice_get}
-use mathlib.Core.Option.{some}
-use lib.ListN.{get_elem?}
 use Rattle.iob_base.specs.declared.stamp.Mode.{Mode}
 use Rattle.iob_base.specs.declared.stamp.Mode.TheVariants.{Cached, Dax}
 use Rattle.iob_base.specs.declared.stamp.Tag.{Tag}

@@ -1,8 +1,6 @@
 -- What is told of the turns in which blocks take sectors.
 use Rattle.std.proofs.Common.{◌≡◌, ℕ, Bool, Some, None, Result, Ok, Err, IfOk, IfErr, OnOk, OnErr, List, [], ◌∷◌, ◌++◌, length, All, set, refl, sym, ◌∙◌, ap, subst, arith}
 use Rattle.std.specs.Prelude.{unwrap_or}
-use mathlib.Core.Option.{some}
-use lib.ListN.{get_elem?}
 use Rattle.iob_base.specs.DeviceBlock.{DeviceBlock}
 use Rattle.space_pool.specs.Pool.{HasSize, PoolView}
 use Rattle.space_pool.specs.Seats.{pool_cell}

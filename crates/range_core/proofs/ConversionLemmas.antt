@@ -11,7 +11,7 @@ use Rattle.range_core.specs.declared.entry.Event.{Event}
 use Rattle.range_core.specs.declared.entry.Event.TheVariants.{TakeSample, Reserve, Unreserve, Attach, Preallocate, Fetch, LendRead, FillBack, Store, StoreZeros, LendWriteback, WrittenBack, DropClean, LendDirect, DirectBack, DirectNow, Wipe, DaxGet, DaxPut, DaxZero}
 use Rattle.range_core.specs.declared.entry.Outcome.{Outcome}
 use Rattle.range_core.specs.declared.entry.Outcome.TheVariants.{Refused, Sampled, Counted, Took, Lending, Finished}
-use Rattle.range_core.specs.declared.lending.Lender.TheVariants.{Reading, Direct}
+use Rattle.range_core.specs.declared.lending.Lender.TheVariants.{Reading}
 use Rattle.std.specs.Prelude.{is_some}
 
 -- no block both is and is not mapped

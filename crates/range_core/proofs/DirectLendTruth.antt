@@ -2,8 +2,6 @@
 use Rattle.std.proofs.Common.{◌≡◌, ℕ, zero, suc, ◌+◌, ◌-◌, ◌<◌, Bool, true, false, if◌then◌else◌, Option, Some, None, List, [], ◌∷◌, ◌++◌, length, map, get_or, set, All, append-nil, refl, sym, ◌∙◌, ap, subst, arith}
 use Rattle.std.specs.Prelude.{IfErr, IfOk, OnErr, OnOk, Result, Ok, Err, slice_get, unwrap_or, ◌&&◌, not}
 use Rattle.std.proofs.lemmas.Option.{slice_get-get_or, slice_get_within}
-use mathlib.Core.Option.{some}
-use lib.ListN.{get_elem?}
 use Rattle.iob_base.specs.Parting.{IsBare, bare_parts, pages_of}
 use Rattle.iob_base.proofs.PartLemmas.{pages_of-bare}
 use Rattle.iob_base.specs.declared.part.Part.{Part}

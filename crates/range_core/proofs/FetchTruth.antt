@@ -2,8 +2,6 @@
 use Rattle.std.proofs.Common.{◌≡◌, ℕ, ◌+◌, ◌-◌, ◌<◌, ◌≤◌, false, Option, Some, None, List, [], ◌∷◌, ◌++◌, length, get_or, set, refl, sym, ◌∙◌, ap, subst, arith}
 use Rattle.std.specs.Prelude.{IfSome, IsSomeAnd, OnErr, OnOk, Result, Ok, Err, slice_get, ◌&&◌, not}
 use Rattle.std.proofs.lemmas.Option.{slice_get-get_or}
-use mathlib.Core.Option.{some}
-use lib.ListN.{get_elem?}
 use Rattle.iob_base.specs.declared.sector.Page.{Page}
 use Rattle.iob_base.specs.declared.stamp.Tag.{Tag}
 use Rattle.io_model.specs.Contents.{Content}
@@ -34,7 +32,7 @@ use Rattle.range_core.proofs.ByteRunLemmas.{gathered-same, met-inside, met-outsi
 use Rattle.range_core.proofs.EachLemmas.{in_run-there, is_there}
 use Rattle.range_core.proofs.FetchLemmas.{cached-block}
 use Rattle.range_core.proofs.FillLemmas.{filled_true}
-use Rattle.range_core.proofs.PagingLemmas.{either_filled, filled-whole, filled_keeps}
+use Rattle.range_core.proofs.PagingLemmas.{filled-whole, filled_keeps}
 use Rattle.range_core.proofs.RefusedLemmas.{refused_is_quiet}
 use Rattle.range_core.proofs.StopLemmas.{neither, none_stops, run_of-at, where_true-not}
 use Rattle.range_core.specs.Happened.{keeps_page, is_cold_in}

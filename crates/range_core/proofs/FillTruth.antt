@@ -3,8 +3,6 @@ use Rattle.std.proofs.Common.{◌≡◌, ℕ, ◌+◌, ◌-◌, if◌then◌else
 use Rattle.std.specs.Prelude.{◌&&◌, ◌||◌, MatchResult, unwrap_or, is_none, is_some, not, replicate}
 use Rattle.std.proofs.lemmas.List.{get_or-replicate, length-replicate}
 use Rattle.std.proofs.lemmas.Option.{slice_get-get_or}
-use mathlib.Core.Option.{some}
-use lib.ListN.{get_elem?}
 use Rattle.iob_base.specs.DeviceBlock.{BLANK}
 use Rattle.iob_base.specs.Layout.{Layout}
 use Rattle.iob_base.specs.declared.sector.Page.{Page}

@@ -1,5 +1,5 @@
 -- Histories that can have happened, entry by entry.
-use Rattle.std.proofs.Common.{◌≡◌, ℕ, Bool, true, false, ◌&&◌, List, [], ◌∷◌, ◌++◌, refl, ◌∙◌, ap}
+use Rattle.std.proofs.Common.{◌≡◌, ℕ, Bool, true, ◌&&◌, List, [], ◌∷◌, ◌++◌, refl, ◌∙◌, ap}
 use Rattle.std.proofs.lemmas.Bool.{and_parts}
 use Rattle.range_core.specs.BlockStates.{BlockState, state_after, states_replayed}
 use Rattle.range_core.specs.Happened.{fits_by, lawful_from}

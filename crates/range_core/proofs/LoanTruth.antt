@@ -1,8 +1,6 @@
 -- The truth of blocks that are lent and come back, and of those that a seat's claim does not name.
 use Rattle.std.proofs.Common.{◌≡◌, ◌≢◌, ℕ, ◌+◌, ◌-◌, Bool, true, false, Option, Some, None, IsTrue, IfSome, IsSomeAnd, List, [], ◌∷◌, ◌++◌, length, drop, set, refl, sym, ◌∙◌, ap, subst, arith}
 use Rattle.std.specs.Prelude.{is_some, slice_get, unwrap_or}
-use mathlib.Core.Option.{some}
-use lib.ListN.{get_elem?}
 use Rattle.iob_base.specs.DeviceBlock.{BLANK, DeviceBlock}
 use Rattle.iob_base.specs.declared.sector.Page.{Page}
 use Rattle.iob_base.specs.declared.part.Part.{Part}

@@ -1,8 +1,6 @@
 -- A turn that lends blocks keeps the truth.
 use Rattle.std.proofs.Common.{◌≡◌, ◌≢◌, ℕ, ◌+◌, ◌-◌, ◌<◌, ◌≤◌, ◌^◌, ◌%◌, true, false, Some, None, IsTrue, IfSome, IsSomeAnd, List, [], ◌∷◌, ◌++◌, length, set, All, refl, sym, ◌∙◌, ap, subst, arith, append-nil}
 use Rattle.std.specs.Prelude.{max, slice_get}
-use mathlib.Core.Option.{some}
-use lib.ListN.{get_elem?}
 use Rattle.iob_base.specs.declared.TheConstants.{WORN}
 use Rattle.iob_base.specs.declared.sector.Page.{Page}
 use Rattle.iob_base.specs.declared.stamp.Mode.TheVariants.{Dax}

@@ -1,12 +1,11 @@
 -- How a list of parts is gone through, sector by sector.
-use Rattle.std.proofs.Common.{◌≡◌, ℕ, zero, suc, ◌+◌, ◌<◌, Some, List, [], ◌∷◌, length, map, drop, get_or, All, arith, refl, sym, ap, ◌∙◌, add-zero}
+use Rattle.std.proofs.Common.{◌≡◌, ℕ, zero, suc, ◌+◌, Some, List, [], ◌∷◌, map, drop, get_or, All, arith, refl, sym, ap, ◌∙◌, add-zero}
 use Rattle.std.specs.Prelude.{slice_get}
 use Rattle.std.proofs.lemmas.List.{drop-drop, get_or-drop}
 use Rattle.std.proofs.lemmas.List.Elements.{All-tail}
 use Rattle.iob_base.specs.DeviceBlock.{DeviceBlock}
 use Rattle.iob_base.specs.Parting.{IsBare, bare_part, bare_parts, pages_of}
 use Rattle.iob_base.specs.declared.part.Part.{Part}
-use Rattle.iob_base.specs.declared.sector.Page.{Page}
 use Rattle.range_core.specs.DirectLends.{part_zeroed, zeroed}
 use Rattle.range_core.specs.Writebacks.{page_copy, part_copy}
 use Rattle.range_core.specs.declared.cell.Cell.{Cell}

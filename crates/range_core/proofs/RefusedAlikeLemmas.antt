@@ -1,22 +1,18 @@
 -- What an event is refused for depends on the blocks' states and on the cookie alone.
-use Rattle.std.proofs.Common.{◌≡◌, ℕ, zero, suc, ◌+◌, ◌-◌, ◌/◌, ◌<◌, ◌==◌, Bool, true, false, ◌&&◌, ◌||◌, not, if◌then◌else◌, Option, Some, None, List, [], ◌∷◌, length, map, take, drop, refl, sym, ◌∙◌, ap, arith}
-use Rattle.std.specs.Prelude.{is_none, is_some, nat_eq, slice_get}
+use Rattle.std.proofs.Common.{◌≡◌, ℕ, zero, suc, ◌+◌, ◌-◌, ◌/◌, ◌==◌, Bool, true, false, ◌&&◌, ◌||◌, not, if◌then◌else◌, Option, Some, None, List, [], ◌∷◌, length, map, take, drop, refl, sym, ◌∙◌, ap, arith}
+use Rattle.std.specs.Prelude.{is_none, is_some, slice_get}
 use Rattle.std.specs.List.{list_any}
-use Rattle.fault_device.specs.declared.lane.Done.{Done}
 use Rattle.iob_base.specs.declared.sector.Page.{Page}
-use Rattle.io_model.specs.declared.file.Kind.{Kind}
 use Rattle.range_core.specs.BlockStates.{BlockState, read_back, state_of, states_replayed}
 use Rattle.range_core.specs.Kinds.{has_space, is_delalloc, is_hole, is_mapped, is_unwritten}
-use Rattle.range_core.specs.RangeTruth.{RangeTruth}
 use Rattle.range_core.specs.RangeView.{RangeView}
 use Rattle.range_core.specs.RefusedAlike.{AreRefusedAlike, FilledIsWarm, HistoryRefuses, cell_in, cells_after, states_after}
 use Rattle.range_core.specs.Refusals.{◌orElse◌, away, away_with_page, cold, cold_in_part, covers_in_part, dirty, first_that_stops, is_cold, not_ready, run_of, some_block, stale, warm, where_true, will_convert, worn}
-use Rattle.range_core.specs.Spots.{blocks_met, in_run}
-use Rattle.range_core.specs.Stakes.{RangeStake}
+use Rattle.range_core.specs.Spots.{blocks_met}
 use Rattle.range_core.specs.declared.cell.Cell.{Cell}
 use Rattle.range_core.specs.declared.entry.Entry.{Entry}
 use Rattle.range_core.specs.declared.fault.EventFault.{EventFault}
-use Rattle.range_core.specs.declared.fault.EventFault.TheVariants.{Cold, Dirty, Settled, Stale, Unattached}
+use Rattle.range_core.specs.declared.fault.EventFault.TheVariants.{Cold, Settled, Stale}
 use Rattle.range_core.specs.declared.sample.Sample.{Sample}
 
 -- blocks in the same state hinder alike

@@ -2,8 +2,6 @@
 use Rattle.std.proofs.Common.{◌≡◌, ◌≢◌, ℕ, zero, suc, ◌+◌, ◌-◌, ◌<◌, ◌≤◌, ◌%◌, true, if◌then◌else◌, Option, Some, None, Result, Ok, Err, IfOk, IfErr, List, [], ◌∷◌, ◌++◌, length, drop, get_or, min, set, refl, sym, ◌∙◌, ap, subst, arith, append-nil, length-drop}
 use Rattle.std.specs.Prelude.{IsSomeAnd, slice_get}
 use Rattle.std.proofs.lemmas.Option.{slice_get-get_or}
-use mathlib.Core.Option.{some}
-use lib.ListN.{get_elem?}
 use Rattle.iob_base.specs.declared.TheConstants.{STRIPE, WORN}
 use Rattle.io_model.specs.Contents.{Content}
 use Rattle.io_model.specs.Kinds.{is_kind}

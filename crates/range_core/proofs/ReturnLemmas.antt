@@ -1,8 +1,6 @@
 -- What the truth tells of blocks that a seat's claim names.
 use Rattle.std.proofs.Common.{◌≡◌, ℕ, ◌+◌, ◌-◌, ◌<◌, ◌≤◌, true, Option, Some, None, List, length, refl, sym, ◌∙◌, ap, subst, arith}
 use Rattle.std.specs.Prelude.{slice_get}
-use mathlib.Core.Option.{some}
-use lib.ListN.{get_elem?}
 use Rattle.iob_base.specs.declared.stamp.Op.{Op}
 use Rattle.fault_device.specs.declared.lane.Done.{Done}
 use Rattle.io_model.specs.Contents.{Content}

@@ -1,7 +1,5 @@
 -- The range truth after an event that was refused, though its seat may have had a turn at the pool.
 use Rattle.std.proofs.Common.{◌≡◌, ℕ, Some, List, [], ◌∷◌, ◌++◌, set, refl, sym, ◌∙◌, subst, arith}
-use mathlib.Core.Option.{some}
-use lib.ListN.{get_elem?}
 use Rattle.space_pool.specs.Turns.{KeepsSeat}
 use Rattle.space_pool.specs.Pool.{no_space}
 use Rattle.space_pool.specs.declared.answer.NoSpace.{NoSpace}

@@ -1,8 +1,7 @@
 -- A block that has a sector keeps it until it is wiped.
-use Rattle.std.proofs.Common.{◌≡◌, ℕ, ◌-◌, Bool, true, false, ◌&&◌, not, if◌then◌else◌, Option, Some, None, List, [], ◌∷◌, length, is_some, refl, sym, ◌∙◌, ap}
+use Rattle.std.proofs.Common.{◌≡◌, ℕ, Bool, true, false, ◌&&◌, not, if◌then◌else◌, Option, Some, None, [], ◌∷◌, length, is_some, refl, sym, ◌∙◌, ap}
 use Rattle.std.proofs.lemmas.Bool.{and_parts}
 use Rattle.iob_base.specs.declared.stamp.Op.TheVariants.{Read, Write}
-use Rattle.io_model.specs.Kinds.{is_kind, kind_after}
 use Rattle.io_model.specs.declared.file.Kind.{Kind}
 use Rattle.io_model.specs.declared.file.Kind.TheVariants.{Hole, Delalloc, Unwritten, Mapped}
 use Rattle.range_core.specs.BlockStates.{BlockState, at_home_again, becomes_hole, directly_back, is_zero_already, lent_clean, lent_for, put_through, state_after, state_by, taken_by, with_space, written_back, becomes_dirty, becomes_uptodate, lent_directly, read_back, without_page}
@@ -10,12 +9,11 @@ use Rattle.range_core.specs.Happened.{fits_by, found_by, lawful_from, took_just}
 use Rattle.range_core.specs.Kinds.{has_space, is_delalloc, is_hole, is_mapped, written_kind}
 use Rattle.range_core.specs.Lasting.{KeepsSector, SectorsLast, is_unwiped, wipes}
 use Rattle.range_core.specs.Spots.{in_run, is_met}
-use Rattle.range_core.specs.declared.entry.Entry.{Entry}
 use Rattle.range_core.specs.declared.entry.Event.{Event}
 use Rattle.range_core.specs.declared.entry.Event.TheVariants.{TakeSample, Reserve, Unreserve, Attach, Preallocate, Fetch, LendRead, FillBack, Store, StoreZeros, LendWriteback, WrittenBack, DropClean, LendDirect, DirectBack, DirectNow, Wipe, DaxGet, DaxPut, DaxZero}
 use Rattle.range_core.specs.declared.entry.Outcome.{Outcome}
 use Rattle.range_core.specs.declared.entry.Outcome.TheVariants.{Refused, Sampled, Counted, Took, Lending, Finished}
-use Rattle.range_core.specs.declared.lending.Lender.TheVariants.{Reading, Direct}
+use Rattle.range_core.specs.declared.lending.Lender.TheVariants.{Reading}
 
 stays : (k : Kind) → KeepsSector k k
 stays k = record { number = refl; mapped = λ m. m }

@@ -1,7 +1,5 @@
 -- The range truth after an entry that leaves stamps and changes nothing else, and what every range keeps.
 use Rattle.std.proofs.Common.{List, Some, [], ap, arith, length, refl, set, sym, ℕ, ◌++◌, ◌-◌, ◌∙◌, ◌∷◌, ◌≡◌}
-use mathlib.Core.Option.{some}
-use lib.ListN.{get_elem?}
 use Rattle.iob_base.specs.declared.stamp.Stamp.{Stamp}
 use Rattle.io_model.specs.Contents.{Content}
 use Rattle.range_core.specs.BlockContents.{content_after}

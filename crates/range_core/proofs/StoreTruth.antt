@@ -2,8 +2,6 @@
 use Rattle.std.proofs.Common.{◌≡◌, ◌≢◌, ℕ, ◌+◌, ◌-◌, ◌<◌, ◌≤◌, Bool, true, false, not, ◌&&◌, if◌then◌else◌, Option, Some, None, List, [], ◌∷◌, ◌++◌, length, set, refl, sym, ◌∙◌, ap, subst, arith}
 use Rattle.std.specs.Prelude.{OnErr, OnOk, Result, Ok, Err, nat_eq, slice_get}
 use Rattle.std.proofs.lemmas.Bool.{eqb-true}
-use mathlib.Core.Option.{some}
-use lib.ListN.{get_elem?}
 use Rattle.iob_base.specs.declared.stamp.Tag.{Tag}
 use Rattle.io_model.specs.Contents.{Content}
 use Rattle.io_model.specs.Kinds.{kind_after}
@@ -15,7 +13,6 @@ use Rattle.range_core.specs.ByteRuns.{IsByteRun, IsInFolio, after_bytes, run_bet
 use Rattle.range_core.specs.ClaimsView.{ClaimsView}
 use Rattle.range_core.specs.Kinds.{is_hole}
 use Rattle.range_core.specs.Outcomes.{finished}
-use Rattle.range_core.specs.Paging.{lacks_page}
 use Rattle.range_core.specs.RangeTruth.{RangeTruth}
 use Rattle.range_core.specs.RangeView.{RangeView}
 use Rattle.range_core.specs.Refusals.{away_with_page, cold_in_part, covers_in_part, first_that_stops, is_cold, met, pageless_at, run_of, stale, store_refusal, ◌orElse◌}
@@ -34,7 +31,6 @@ use Rattle.range_core.proofs.AfterBytes.{bytes_truth}
 use Rattle.range_core.proofs.ByteRunLemmas.{met-inside, met-outside}
 use Rattle.range_core.proofs.FetchTruth.{refused_truth}
 use Rattle.range_core.proofs.LayLemmas.{stored_true}
-use Rattle.range_core.proofs.PagingLemmas.{either_filled}
 use Rattle.range_core.proofs.StopLemmas.{neither, none_stops, run_of-at, where_true-not}
 use Rattle.range_core.proofs.StoreLemmas.{stored_keeps}
 use Rattle.range_core.proofs.FoundLemmas.{found_met, page-found, part-found}

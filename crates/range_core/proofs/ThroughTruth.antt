@@ -1,13 +1,11 @@
 -- The range truth after an entry that changes the sectors' bytes of a run of blocks of a file that skips the page cache, and leaves a stamp on each.
-use Rattle.std.proofs.Common.{◌≡◌, ℕ, ◌+◌, ◌-◌, ◌≤◌, Bool, ◌||◌, ◌&&◌, Option, Some, None, List, [], ◌∷◌, ◌++◌, length, set, refl, sym, ◌∙◌, ap, subst, arith}
+use Rattle.std.proofs.Common.{◌≡◌, ℕ, ◌+◌, ◌-◌, ◌≤◌, ◌||◌, ◌&&◌, Option, Some, None, List, [], ◌∷◌, ◌++◌, length, set, refl, sym, ◌∙◌, ap, subst, arith}
 use Rattle.std.specs.Prelude.{IfSome, is_some}
-use mathlib.Core.Option.{some}
-use lib.ListN.{get_elem?}
 use Rattle.iob_base.specs.declared.sector.Page.{Page}
 use Rattle.iob_base.specs.declared.stamp.Tag.{Tag}
 use Rattle.io_model.specs.Contents.{Content}
 use Rattle.turn_cell.specs.Stakes.{total}
-use Rattle.range_core.specs.BlockStates.{BlockState, state_of}
+use Rattle.range_core.specs.BlockStates.{state_of}
 use Rattle.range_core.specs.BlockTruth.{FitsAway, HomeContent, IsHomeContent, IsTrueAt, gone, is_gone}
 use Rattle.range_core.specs.ByteRuns.{after_bytes}
 use Rattle.range_core.specs.Cells.{HasPlace}
@@ -33,7 +31,6 @@ use Rattle.range_core.proofs.KindRuns.{kinds_of}
 use Rattle.range_core.specs.Through.{on_sector, through, where_mapped}
 use Rattle.range_core.proofs.ThroughLemmas.{either_mapped, place-changed}
 use Rattle.io_model.specs.Contents.{zeros}
-use Rattle.io_model.specs.declared.file.Kind.{Kind}
 use Rattle.iob_base.specs.DeviceBlock.{DeviceBlock}
 use Rattle.range_core.proofs.StakeTruth.{Works}
 

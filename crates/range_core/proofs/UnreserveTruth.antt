@@ -1,7 +1,5 @@
 -- The range truth after promises of space were taken back.
 use Rattle.std.proofs.Common.{◌≡◌, ℕ, ◌+◌, ◌-◌, not, ◌&&◌, if◌then◌else◌, nat_lt, Some, List, [], ◌∷◌, ◌++◌, take, drop, set, refl, sym, ap, arith, append-nil}
-use mathlib.Core.Option.{some}
-use lib.ListN.{get_elem?}
 use Rattle.space_pool.specs.declared.entry.PoolEntry.{PoolEntry}
 use Rattle.turn_cell.specs.Views.{SeatView}
 use Rattle.range_core.specs.BlockStates.{becomes_hole}

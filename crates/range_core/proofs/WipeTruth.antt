@@ -2,8 +2,6 @@
 use Rattle.std.proofs.Common.{◌≡◌, ℕ, ◌+◌, ◌-◌, Bool, true, false, not, nat_lt, if◌then◌else◌, Option, Some, None, Result, Ok, Err, IfOk, IfErr, OnOk, OnErr, List, [], ◌∷◌, ◌++◌, take, drop, set, refl, sym, ◌∙◌, ap, subst, arith}
 use Rattle.std.specs.Prelude.{slice_get, unwrap_or, is_none}
 use Rattle.std.proofs.lemmas.List.{length-replicate}
-use mathlib.Core.Option.{some}
-use lib.ListN.{get_elem?}
 use Rattle.iob_base.specs.declared.stamp.Tag.{Tag}
 use Rattle.io_model.specs.Contents.{Content, zeros}
 use Rattle.io_model.specs.declared.file.Kind.TheVariants.{Hole}

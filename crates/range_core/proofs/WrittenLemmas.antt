@@ -15,7 +15,7 @@ use Rattle.range_core.specs.declared.entry.Event.TheVariants.{TakeSample, Reserv
 use Rattle.range_core.specs.declared.entry.Outcome.{Outcome}
 use Rattle.range_core.specs.declared.entry.Outcome.TheVariants.{Refused, Sampled, Counted, Took, Lending, Finished}
 use Rattle.range_core.specs.declared.lending.Away.{Away}
-use Rattle.range_core.specs.declared.lending.Lender.TheVariants.{Reading, Writeback, Direct}
+use Rattle.range_core.specs.declared.lending.Lender.TheVariants.{Reading, Writeback}
 use Rattle.range_core.specs.Refusals.{covers_in_part}
 
 abbrev is_out_for_writeback : Option Away → Bool

@@ -1,7 +1,7 @@
 -- Histories of block 0, tried: which can have happened.
-use Rattle.std.specs.Prelude.{◌≡◌, ℕ, Bool, true, false, None, Some, List, [], ◌∷◌, if◌then◌else◌}
+use Rattle.std.specs.Prelude.{◌≡◌, ℕ, Bool, true, false, None, List, [], ◌∷◌, if◌then◌else◌}
 use Rattle.fault_device.specs.declared.lane.Done.{Done}
-use Rattle.iob_base.specs.declared.stamp.Op.TheVariants.{Read, Write}
+use Rattle.iob_base.specs.declared.stamp.Op.TheVariants.{Read}
 use Rattle.iob_base.specs.declared.stamp.Tag.{Tag}
 use Rattle.io_model.specs.declared.file.Kind.{Kind}
 use Rattle.io_model.specs.declared.file.Kind.TheVariants.{Hole, Delalloc, Unwritten, Mapped}
@@ -9,7 +9,7 @@ use Rattle.range_core.specs.BlockStates.{BlockState}
 use Rattle.range_core.specs.Happened.{lawful_from}
 use Rattle.range_core.specs.declared.entry.Entry.{Entry}
 use Rattle.range_core.specs.declared.entry.Event.{Event}
-use Rattle.range_core.specs.declared.entry.Event.TheVariants.{Reserve, Attach, Preallocate, LendRead, FillBack, Store, LendWriteback, WrittenBack, LendDirect, DirectBack, Wipe, DaxPut}
+use Rattle.range_core.specs.declared.entry.Event.TheVariants.{Reserve, Attach, Preallocate, LendRead, FillBack, Store, LendWriteback, WrittenBack, LendDirect, Wipe, DaxPut}
 use Rattle.range_core.specs.declared.entry.Outcome.{Outcome}
 use Rattle.range_core.specs.declared.entry.Outcome.TheVariants.{Refused, Sampled, Counted, Took, Lending, Finished}
 use Rattle.range_core.specs.declared.fault.EventFault.TheVariants.{NoMemory}
