@@ -8,6 +8,7 @@ pub mod Fitting
 pub mod Journals
 pub mod Kinds
 pub mod Lists
+pub mod OneOrder
 pub mod Pages
 pub mod Parts
 pub mod Ranges

@@ -13,6 +13,7 @@ pub mod PunchZeroesPartialEnds
 pub mod ClosingSyncFails
 pub mod ShortReadAtAFault
 pub mod TwoDirectWritesInOnePhase
+pub mod TwoCallersApart
 pub mod WrongRuns
 pub mod Flaws
 pub mod UnalignedDirectCallsAreRefused

@@ -21,6 +21,7 @@ ghost use Rattle.io_model.specs.Rows.UnalignedDirectCallsAreRefused as unaligned
 ghost use Rattle.io_model.specs.Rows.PrintsTheImage as prints_the_image;
 ghost use Rattle.io_model.specs.RunText.{run_text, page_runs, runs_text};
 
+mod order;
 mod owed;
 mod refusals;
 mod rows;

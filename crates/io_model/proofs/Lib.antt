@@ -1,0 +1,4 @@
+pub mod Blocks
+pub mod Orders
+pub mod Rising
+pub mod ScriptOrder
