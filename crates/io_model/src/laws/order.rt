@@ -12,7 +12,7 @@ ghost use Rattle.io_model.specs.Rows.TwoDirectWritesInOnePhase as two_direct_wri
 ghost use Rattle.io_model.specs.declared.run.Run.{Run};
 ghost use Rattle.io_model.specs.declared.script.Script.{Script};
 
-/// Two callers of a phase write blocks of their own, and each journal is in the order of the script.
+/// Two callers of a phase have blocks of their own, one in another file, and each journal is in the order of the script.
 #[tactic(auto, unfolding(crate::specs::Rows::Parts::printed))]
 pub fn callers_apart_leave_one_order()
     ensures right { RunIsRight two_callers_apart.script two_callers_apart.makers two_callers_apart.run }
