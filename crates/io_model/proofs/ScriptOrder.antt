@@ -50,7 +50,7 @@ record StayApart (size f b : ℕ) (calls : List Call) (ranged : List Ranged) : T
   phases : IsTrue (phases_rise calls)
   apart : IsTrue (each_pair (stay_apart size f b) ranged)
 
--- of two calls that touch a block, the one that is not the later in the script is no earlier caller's
+-- two calls that touch a block are one caller's where the second is of no earlier phase, but stands no later in the script
 one_caller : (size f b : ℕ) (calls : List Call) (ranged : List Ranged) → StayApart size f b calls ranged → (n m : ℕ) (r s : Ranged)
     → numbered ranged n ≡ Some r → numbered ranged m ≡ Some s → IsTrue (touches size f b r) → IsTrue (touches size f b s)
     → r.call.phase ≤ s.call.phase → m ≤ n → r.call.caller ≡ s.call.caller
