@@ -1,19 +1,25 @@
-//! Bios that come back to a shelf, and go through a queue.
+//! Bios that come back to a shelf, and go through a queue, also to another thread.
 ghost use Rattle.std.specs.Prelude.{◌≡◌, ◌<◌};
 ghost use Rattle.std.specs.Arc.{arc_value};
+ghost use denote.Param.Send.{IsSend};
 ghost use Rattle.bio_pages.specs.Running.{IsRun};
-ghost use Rattle.bio_pages.specs.Shelf.{with_errand, IsFree};
+ghost use Rattle.bio_pages.specs.Shelf.{with_errand, IsFree, IsNotedFor};
 
-use bio_pages::{Bio, BioQueue, BioShelf, Sent, ShelfSeat, run_bio};
+use bio_pages::{Bio, BioQueue, BioShelf, QueuePass, Sent, ShelfSeat, run_bio, send_out, serve};
 use fault_device::{Done, Lane, Listed, can_transfer};
 use folio_bits::Outcome;
 use iob_base::{Geometry, Items, Op, Page, Part, Parts, sectors};
 use std::alloc::Global;
 use std::process::Abort;
-use std::sync::Arc;
+use std::snapshot::Snapshot;
+use std::sync::{Arc, Wait};
 use std::test::Fail;
+use std::thread;
 
 const BLOCK: u32 = 16;
+
+// How often a thread looks for bios that another is to push.
+const TRIES: u32 = 10_000_000;
 
 // A write of one block of bytes ee from a page of this byte, that returns to this slot.
 fn write_of(alloc: Global, slot: u32, fill: u8) -> Result<Bio<u64>, Fail> {
@@ -124,5 +130,135 @@ fn queue_of_one(rt: HostRuntime) -> Result<(), Fail> {
     };
     assert_eq!(rt; first.bio.slot, 0);
     assert!(rt; queue.pop(&rt, &mut pass).is_none());
+    Ok(())
+}
+
+// The owner of a bio that is away, with a shelf of one slot.
+#[derive(Drop)]
+struct Away {
+    shelf: Arc<BioShelf<u64>, Global>,
+    owner: ShelfSeat<u64>,
+    bio: Snapshot<Bio<u64>>,
+    ghost of_shelf: { owner.shelf ≡ arc_value shelf },
+    ghost first: { owner.seat ≡ 0 },
+    ghost noted: { IsNotedFor owner 0 bio.value },
+}
+
+fn sent_out<R: Wait + Abort>(
+    rt: &R,
+    alloc: Global,
+    queue: &BioQueue<u64>,
+    pass: &mut QueuePass<u64>,
+    lane: &mut Lane,
+    fill: u8,
+) -> Result<Away, Fail>
+    requires { pass.old.queue ≡ queue.now.queue }
+    ensures { pass.new.queue ≡ pass.old.queue }
+{
+    let mut bio = write_of(alloc, 0, fill)?;
+    bio.slot = 0;
+    assert!(rt; can_transfer(bio.parts.as_slice()));
+    let (shelf, mut owner) = BioShelf::start(alloc, 1)?;
+    let shelf = Arc::new(alloc, shelf)?;
+    let noted = Snapshot::of(&bio);
+    send_out(rt, queue, pass, &shelf, &mut owner, lane, bio);
+    Ok(Away {
+        shelf,
+        owner,
+        bio: noted,
+    })
+}
+
+// Gathers the bio if it is back.
+fn home(away: Away) -> Option<(Bio<u64>, Done)> {
+    let Away {
+        shelf,
+        mut owner,
+        bio: _,
+    } = away;
+    let Outcome::Last = shelf.look(&mut owner) else {
+        return None;
+    };
+    Some(shelf.gather(&mut owner, 0))
+}
+
+// Runs so many bios that come through the queue, unless they stay away for long, and tells how many judgements the lane made.
+fn serve_some<R: Wait>(
+    rt: &R,
+    queue: &BioQueue<u64>,
+    mut pass: QueuePass<u64>,
+    mut lane: Lane,
+    count: u32,
+) -> u64
+    requires { pass.queue ≡ queue.now.queue }
+{
+    let mut served = 0;
+    for _ in 0..TRIES {
+        if served >= count {
+            break;
+        }
+        match queue.pop(rt, &mut pass) {
+            Some(sent) => {
+                serve(&mut lane, sent);
+                served += 1;
+            }
+            None => thread::yield_now(),
+        }
+    }
+    lane.ops()
+}
+
+fn send_some<R: Wait + Abort>(
+    rt: &R,
+    alloc: Global,
+    queue: &BioQueue<u64>,
+    mut pass: QueuePass<u64>,
+    mut lane: Lane,
+    count: u8,
+) -> Result<Vec<Away>, Fail>
+    requires { pass.queue ≡ queue.now.queue }
+{
+    let mut all = Vec::new(alloc);
+    for i in 0..count {
+        all.push(sent_out(rt, alloc, queue, &mut pass, &mut lane, i)?)?;
+    }
+    Ok(all)
+}
+
+// A type whose values can go to another thread.
+fn goes<T: Send>()
+    ensures { IsSend T.row }
+{}
+
+// One thread pushes sixteen bios and another runs them. Each comes back with its own byte, from the other's lane.
+#[test]
+fn another_thread_runs_sixteen(rt: HostRuntime) -> Result<(), Fail> {
+    goes::<Bio<u64>>();
+    goes::<Sent<u64>>();
+    let alloc = rt.alloc();
+    let own = Lane::new(0, Box::new(alloc, Listed::new(alloc))?);
+    let other = Lane::new(1, Box::new(alloc, Listed::new(alloc))?);
+    let (queue, mut mine) = BioQueue::start(alloc, 16)?;
+    let theirs = queue.split(&mut mine)?;
+    let line = &queue;
+    let (sent, served) = thread::join(
+        &rt,
+        move ||
+            requires { mine.queue ≡ line.now.queue }
+        { send_some(&rt, alloc, line, mine, own, 16) },
+        move ||
+            requires { theirs.queue ≡ line.now.queue }
+        { serve_some(&rt, line, theirs, other, 16) },
+    );
+    let mut sent = sent?;
+    assert_eq!(rt; (sent.len(), served), (16, 16));
+    for fill in (0..16).rev() {
+        let one = sent.pop().ok_or("sixteen were sent")?;
+        let (bio, done) = home(one).ok_or("every bio is back")?;
+        assert_eq!(rt;
+            (block_byte(&bio), done.lane, done.landed),
+            (Some(fill), 1, 1)
+        );
+    }
     Ok(())
 }
