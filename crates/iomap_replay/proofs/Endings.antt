@@ -52,10 +52,10 @@ checks_say = record { told = told; far = far }
     far text bytes NoMemory written long longer says = absurd says
     far text bytes BadWords written long longer says = absurd says
 
-pub replays_say : (openings : List Opening) → IsSaying (Replays openings)
-replays_say openings = record { told = told; far = far }
+pub replays_say : (openings : List Opening) (image : Bool) → IsSaying (Replays openings image)
+replays_say openings image = record { told = told; far = far }
   where
-    told : (text : List ℕ) (ending : Ending) (written : List ℕ) → Replays openings text ending written → IsTold ending
+    told : (text : List ℕ) (ending : Ending) (written : List ℕ) → Replays openings image text ending written → IsTold ending
     told text Whole written says = tt
     told text Refused written says = tt
     told text Errors written says = tt
@@ -64,8 +64,8 @@ replays_say openings = record { told = told; far = far }
     told text NoMemory written says = says
     told text BadWords written says = says
 
-    far : (text bytes : List ℕ) (ending : Ending) (written : List ℕ) → TEXT_LIMIT < length text → TEXT_LIMIT < length bytes → Replays openings text ending written
-        → (ending ≡ Refused) × Replays openings bytes Refused written
+    far : (text bytes : List ℕ) (ending : Ending) (written : List ℕ) → TEXT_LIMIT < length text → TEXT_LIMIT < length bytes → Replays openings image text ending written
+        → (ending ≡ Refused) × Replays openings image bytes Refused written
     far text bytes Whole written long longer says = long_is_no_script text long says.is_script.not_refused
     far text bytes Errors written long longer says = long_is_no_script text long says.is_script.not_refused
     far text bytes Refused written long longer (inl says) = (refl, inl (no_script_far text bytes written long longer says))

@@ -1,8 +1,10 @@
+pub mod Caused
 pub mod Devices
 pub mod Endings
 pub mod Firsts
 pub mod JobOf
 pub mod Joined
+pub mod OneCauses
 pub mod OneContents
 pub mod OneFile
 pub mod OneParted

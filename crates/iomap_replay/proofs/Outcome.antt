@@ -60,7 +60,7 @@ kind_of_each xs ys b (suc n) (suc k) same within =
     subst P place (kind_of_each xs ys (b + 1) n k rest (omega arith))
 
 -- the file that the range leaves, with these stamps at the blocks that were read
-read_file : (script : Script) (job : Job) (r : RangeView) (d : ℕ) (read : ℕ → Bool) (stamps : List Stamp) (log : List (ℕ × Stamp)) (file : FileEnd) → job.extent.kind ≡ Mapped d
+pub read_file : (script : Script) (job : Job) (r : RangeView) (d : ℕ) (read : ℕ → Bool) (stamps : List Stamp) (log : List (ℕ × Stamp)) (file : FileEnd) → job.extent.kind ≡ Mapped d
     → ((b : ℕ) → stamps_at b log ≡ (if read b then stamps else []))
     → IsEndOf file (record (opened_range script job r.seat r.space) { log = log }) → IsReadFile script job read stamps file
 read_file script job r d read stamps log file kind logged end =

@@ -10,6 +10,7 @@ use Rattle.iob_base.specs.declared.answer.Fault.TheVariants.{Eio, SyncEio, Again
 use Rattle.iob_base.specs.declared.answer.Reply.TheVariants.{Ok, Err}
 use Rattle.iob_base.specs.declared.answer.Stop.TheVariants.{Whole}
 use Rattle.iob_base.specs.declared.stamp.Stamp.{Stamp}
+use Rattle.io_model.specs.Causes.{is_done_mark}
 use Rattle.io_model.specs.Contents.{Content, device_bytes, opening_content}
 use Rattle.io_model.specs.Effects.{replayed}
 use Rattle.io_model.specs.Finals.{IsFinalContent, final_content, device_content}
@@ -88,6 +89,13 @@ journals : (test : ℕ → ℕ → List Stamp → Bool) (script : Script) (job :
 journals test script job read stamps file is here elsewhere =
     each_block-one (λ f b block. test f b block.journal) file (read_end (device_bytes script) (mapped_in job) read stamps) job.blocks is.blocks
     (λ i within. by_block (read i) stamps (test 0 i) (here i) (elsewhere i))
+
+-- no stamp is a mark of failure
+pub all_done : (script : Script) (job : Job) (read : ℕ → Bool) (stamps : List Stamp) (file : FileEnd) → IsReadFile script job read stamps file
+    → list_all (λ (st : Stamp). is_done_mark st.mark) stamps ≡ true
+    → each_block (λ f b block. list_all (λ st. is_done_mark st.mark) block.journal) (file ∷ []) ≡ true
+all_done script job read stamps file is done =
+    journals (λ _ _ sts. list_all (λ (st : Stamp). is_done_mark st.mark) sts) script job read stamps file is (λ _ _. done) (λ _ _. refl)
 
 lawful : (name : List ℕ) (job : Job) (given : List (ℕ × List ℕ)) (read : ℕ → Bool) (stamps : List Stamp) (file : FileEnd) (end : CallEnd) (free : List DeviceBlock) (lanes : List LaneEnd)
     → IsReadFile (script_of_job name job given) job read stamps file → IsReadCall (script_of_job name job given) job read stamps file end

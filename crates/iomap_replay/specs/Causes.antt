@@ -1,4 +1,4 @@
-use Rattle.std.specs.Prelude.{◌≡◌, ℕ, ◌≤◌, IfSome, List, [], ◌∷◌, ⊤, Option, Some, None, slice_get}
+use Rattle.std.specs.Prelude.{◌≡◌, ℕ, ◌≤◌, IfSome, ⊤}
 use Rattle.iob_base.specs.Counts.{Rose}
 use Rattle.iob_base.specs.declared.answer.Fault.{Fault}
 use Rattle.iob_base.specs.declared.answer.Fault.TheVariants.{Eio, SyncEio, Again, NoMemory, NotAligned, TooFar, NoSpace, Worn}
@@ -8,45 +8,32 @@ use Rattle.iob_base.specs.declared.answer.Stop.{Stop}
 use Rattle.iob_base.specs.declared.answer.Stop.TheVariants.{Whole, End}
 use Rattle.iob_base.specs.declared.answer.Stop.TheVariants.{Fault as Short}
 use Rattle.fault_device.specs.Opening.{Opening, MayFail, fault_bound}
-use Rattle.io_model.specs.declared.run.CallEnd.{CallEnd}
-use Rattle.io_model.specs.declared.script.Call.{Call}
 
--- a device error of a lane: the lane's count rose, its fate may fail, and the count is within the bound
--- where the fate tells one
-pub record IsCausedOn (o : Opening) (lane named before after : ℕ) : Type 0 where
+-- a device error of a lane that now counts so many faults: the lane's count rose, to no more than these, its
+-- fate may fail, and the count is within the bound where the fate tells one
+pub record IsCausedOn (o : Opening) (lane faults named before after : ℕ) : Type 0 where
   pub own : named ≡ lane
   pub rose : Rose before after
+  pub counted : after ≤ faults
   pub may : MayFail o
   pub bound : IfSome (fault_bound o) (λ most. after ≤ most)
 
--- a fault that a call may answer whose transfers go by this lane
-abbrev pub IsCausedFault : Opening → ℕ → Fault → Type 0
-IsCausedFault o lane (Eio named before after) = IsCausedOn o lane named before after
-IsCausedFault o lane (SyncEio _ _) = ⊥
-IsCausedFault o lane (Again _) = ⊥
-IsCausedFault o lane NoMemory = ⊤
-IsCausedFault o lane (NotAligned _) = ⊤
-IsCausedFault o lane (TooFar _ _) = ⊤
-IsCausedFault o lane (NoSpace _ _) = ⊤
-IsCausedFault o lane (Worn _) = ⊥
+-- a fault that a call may answer whose transfers go by this lane, which now counts so many faults
+abbrev pub IsCausedFault : Opening → ℕ → ℕ → Fault → Type 0
+IsCausedFault o lane faults (Eio named before after) = IsCausedOn o lane faults named before after
+IsCausedFault o lane faults (SyncEio _ _) = ⊥
+IsCausedFault o lane faults (Again _) = ⊥
+IsCausedFault o lane faults NoMemory = ⊤
+IsCausedFault o lane faults (NotAligned _) = ⊤
+IsCausedFault o lane faults (TooFar _ _) = ⊤
+IsCausedFault o lane faults (NoSpace _ _) = ⊤
+IsCausedFault o lane faults (Worn _) = ⊥
 
-abbrev pub IsCausedStop : Opening → ℕ → Stop → Type 0
-IsCausedStop o lane Whole = ⊤
-IsCausedStop o lane End = ⊤
-IsCausedStop o lane (Short fault) = IsCausedFault o lane fault
+abbrev pub IsCausedStop : Opening → ℕ → ℕ → Stop → Type 0
+IsCausedStop o lane faults Whole = ⊤
+IsCausedStop o lane faults End = ⊤
+IsCausedStop o lane faults (Short fault) = IsCausedFault o lane faults fault
 
-abbrev pub IsCausedReply : Opening → ℕ → Reply → Type 0
-IsCausedReply o lane (Ok _ stop) = IsCausedStop o lane stop
-IsCausedReply o lane (Err fault _) = IsCausedFault o lane fault
-
--- the reply of a caller's call, whose transfers go by the lane of the caller's number
-abbrev pub IsCausedCall : Option Opening → ℕ → Reply → Type 0
-IsCausedCall None lane reply = ⊥
-IsCausedCall (Some o) lane reply = IsCausedReply o lane reply
-
--- every device error of a run has its cause in the fate of its caller's lane, and no other fault stands
--- without one that a script without sync can have
-abbrev pub AreCaused : List Opening → List Call → List CallEnd → Type 0
-AreCaused openings [] ends = ⊤
-AreCaused openings (call ∷ calls) [] = ⊤
-AreCaused openings (call ∷ calls) (end ∷ ends) = IsCausedCall (slice_get openings call.caller) call.caller end.answer.reply × AreCaused openings calls ends
+abbrev pub IsCausedReply : Opening → ℕ → ℕ → Reply → Type 0
+IsCausedReply o lane faults (Ok _ stop) = IsCausedStop o lane faults stop
+IsCausedReply o lane faults (Err fault _) = IsCausedFault o lane faults fault

@@ -7,6 +7,7 @@ pub mod Jobs
 pub mod OneRead
 pub mod Refusals
 pub mod Runs
+pub mod Starts
 pub mod Statuses
 pub mod Streams
 pub mod Tasks

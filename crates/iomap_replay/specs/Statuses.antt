@@ -1,35 +1,37 @@
 use Rattle.std.specs.Prelude.{◌≡◌, ℕ, Bool, true, false, List, [], Option, Some, IfSome}
 use Rattle.fault_device.specs.Opening.{Opening}
+use Rattle.io_model.specs.Causes.{AreCaused}
 use Rattle.io_model.specs.Right.{RunIsRight}
 use Rattle.io_model.specs.RunText.{run_text, has_error}
 use Rattle.io_model.specs.declared.run.Run.{Run}
 use Rattle.io_model.specs.declared.script.Script.{Script}
 use Rattle.io_script.specs.Grammar.{IsScript}
-use Rattle.iomap_replay.specs.Causes.{AreCaused}
 use Rattle.iomap_replay.specs.Refusals.{IsNoScript, IsRefusal, IsCounted}
+use Rattle.iomap_replay.specs.Starts.{starts_of}
 use Rattle.iomap_replay.specs.Streams.{TookWhole, TookPrefix}
 use Rattle.iomap_replay.specs.declared.ending.Ending.{Ending}
 use Rattle.iomap_replay.specs.declared.ending.Ending.TheVariants.{Whole, Errors, Refused}
 
--- what was written is the text of a right run of the script that the text is: its journals hold every
--- answered call once and in order, and replaying them from the opening contents gives every byte read
--- and every final byte; each device error has its cause in the fate of its lane
-pub record Shows (text : List ℕ) (openings : List Opening) (written : List ℕ) (failed : Bool) : Type 0 where
+-- what was written is the text of a right run of the script that the text is, with the image where it
+-- is asked for: its journals hold every answered call once and in order, and replaying them from the
+-- opening contents gives every byte read and every final byte; and every fault has its cause in the
+-- script or in the fates of the lanes as they were handed over
+pub record Shows (text : List ℕ) (openings : List Opening) (image : Bool) (written : List ℕ) (failed : Bool) : Type 0 where
   pub script : Script
   pub makers : List ℕ
   pub run : Run
   pub is_script : IsScript text script
   pub right : RunIsRight script makers run
-  pub causes : AreCaused openings script.calls run.calls
-  pub shown : written ≡ run_text script run false
+  pub causes : AreCaused (starts_of script openings) script run
+  pub shown : written ≡ run_text script run image
   pub error : failed ≡ has_error run
 
--- what a replay of a text writes, by how it ends
-abbrev pub Replays : List Opening → List ℕ → Ending → List ℕ → Type 0
-Replays openings text Whole written = Shows text openings written false
-Replays openings text Errors written = Shows text openings written true
-Replays openings text Refused written = IsRefusal text written
-Replays openings text _ written = ⊥
+-- what a replay of a text writes, with the image or without it, by how it ends
+abbrev pub Replays : List Opening → Bool → List ℕ → Ending → List ℕ → Type 0
+Replays openings image text Whole written = Shows text openings image written false
+Replays openings image text Errors written = Shows text openings image written true
+Replays openings image text Refused written = IsRefusal text written
+Replays openings image text _ written = ⊥
 
 -- what a check of a text writes, by how it ends
 abbrev pub Checks : List ℕ → Ending → List ℕ → Type 0

@@ -1,9 +1,10 @@
 //! The lanes of a replay, over the fates that it is handed.
 ghost use Rattle.std.specs.Prelude.{◌≡◌, ◌≤◌, ◌<◌, [], ◌∷◌, IfOk, map, length, vec_len};
 ghost use Rattle.fault_device.specs.Opening.{opening_of};
+ghost use Rattle.io_model.specs.Causes.{AreCaused};
 ghost use Rattle.io_model.specs.Right.{RunIsRight};
-ghost use Rattle.iomap_replay.specs.Causes.{AreCaused};
 ghost use Rattle.iomap_replay.specs.Jobs.{IsJobOf};
+ghost use Rattle.iomap_replay.specs.Starts.{idle_end, starts_of};
 
 use crate::job::Job;
 use crate::run::run_script;
@@ -14,7 +15,8 @@ use std::alloc::{AllocError, Global};
 /// The ends of lanes that have nothing to do, numbered from 1 on. Want of memory is the only error.
 fn idle_lanes(alloc: Global, fates: Vec<Box<dyn Fate + Send>>) -> Result<Vec<LaneEnd>, AllocError>
     requires { length fates.items ≤ 65536 }
-    ensures { IfOk result (λ ends. length ends.items ≡ length fates.items) }
+    ensures many { IfOk result (λ ends. length ends.items ≡ length fates.items) }
+    ensures idle { IfOk result (λ ends. ends.items ≡ map (λ f. idle_end (count f)) fates.items) }
 {
     let mut left = fates;
     let mut ends = Vec::new(alloc);
@@ -41,7 +43,7 @@ pub fn play(
     requires job { IsJobOf script.now job.now }
     requires seventeen { length fates.items ≡ 17 }
     ensures right { IfOk result (RunIsRight script.now (0 ∷ [])) }
-    ensures caused { IfOk result (λ run. AreCaused (map (λ f. opening_of (count f) (tells f)) fates.items) script.now.calls run.calls) }
+    ensures caused { IfOk result (λ run. AreCaused (starts_of script.now (map (λ f. opening_of (count f) (tells f)) fates.items)) script.now run) }
 {
     let mut fates = fates;
     let first = fates.remove(0);

@@ -108,7 +108,8 @@ pub fn read_once(
     requires opened { IsOpened script.now job.now range.old }
     ensures outcome { IfOk result (λ end. IsOutcome script.now job.now end range.old range.new) }
     ensures caused { (o : Opening) → Serves o (lane_seen count tells lane.old)
-        → IfOk result (λ end. IsCausedReply o (lane_seen count tells lane.old).number end.answer.reply) }
+        → IfOk result (λ end. IsCausedReply o (lane_seen count tells lane.old).number (lane_seen count tells lane.new).count end.answer.reply) }
+    ensures serves { (o : Opening) → Serves o (lane_seen count tells lane.old) → Serves o (lane_seen count tells lane.new) }
 {
     let size = job.device.block_size;
     let block = begin_of(size, &job.asked);

@@ -1,13 +1,14 @@
 //! The run of a script of one read.
-ghost use Rattle.std.specs.Prelude.{◌≡◌, List, [], ◌∷◌, IfOk, length, slice_get};
+ghost use Rattle.std.specs.Prelude.{◌≡◌, List, [], ◌∷◌, IfOk, length, map};
 ghost use Rattle.std.specs.List.{list_any};
+ghost use Rattle.io_model.specs.Causes.{AreCaused};
 ghost use Rattle.io_model.specs.Contents.{device_bytes};
 ghost use Rattle.io_model.specs.Right.{RunIsRight};
 ghost use Rattle.io_model.specs.RunText.{has_error, is_error};
-ghost use Rattle.iomap_replay.specs.Causes.{AreCaused};
 ghost use Rattle.iomap_replay.specs.Devices.{SameNumbers, blocks_beside, first_number};
 ghost use Rattle.iomap_replay.specs.Jobs.{IsJobOf};
 ghost use Rattle.iomap_replay.specs.Runs.{quiet_close as quiet_close_answer, one_run};
+ghost use Rattle.iomap_replay.specs.Starts.{idle_end, starts_of};
 ghost use Rattle.fault_device.specs.LaneView.{lane_seen};
 ghost use Rattle.fault_device.specs.Opening.{Opening, Serves};
 
@@ -67,8 +68,8 @@ pub fn run_script(
     requires lanes { length others.items ≡ 16 }
     ensures right { IfOk result (RunIsRight script.now (0 ∷ [])) }
     ensures free { IfOk result (λ run. SameNumbers run.ends.free (blocks_beside (device_bytes script.now) (first_number job.now.extent.kind) job.now.extent.length job.now.device.blocks)) }
-    ensures caused { (openings : List Opening) (o : Opening) → slice_get openings 0 ≡ Some o → Serves o (lane_seen count tells lane.old)
-        → (lane_seen count tells lane.old).number ≡ 0 → IfOk result (λ run. AreCaused openings script.now.calls run.calls) }
+    ensures caused { (o : Opening) (rest : List Opening) → Serves o (lane_seen count tells lane.old) → (lane_seen count tells lane.old).number ≡ 0
+        → others.items ≡ map (λ o. idle_end o.count) rest → IfOk result (λ run. AreCaused (starts_of script.now (o ∷ rest)) script.now run) }
 {
     let (own, free) = sectors_of(alloc, script, job)?;
     let (pool, seat) = start_pool(alloc, script, job, &own, free)?;

@@ -1,5 +1,5 @@
 //! The top call.
-ghost use Rattle.std.specs.Prelude.{◌≡◌, ◌↔◌, true, Some, None, length, map, string_bytes, IfOk};
+ghost use Rattle.std.specs.Prelude.{◌≡◌, ◌↔◌, true, false, Some, None, length, map, string_bytes, IfOk};
 ghost use Rattle.iob_base.specs.Outside.{KeepsTold};
 ghost use Rattle.fault_device.specs.Opening.{opening_of};
 ghost use Rattle.io_script.specs.Grammar.{IsScript};
@@ -36,7 +36,7 @@ fn run_output(
 ) -> Result<Output, AllocError>
     requires script { IsScript text.now script.now }
     requires seventeen { length fates.items ≡ 17 }
-    ensures { IfOk result (λ output. Replays (map (λ f. opening_of (count f) (tells f)) fates.items) text.now output.ending output.written.items) }
+    ensures { IfOk result (λ output. Replays (map (λ f. opening_of (count f) (tells f)) fates.items) false text.now output.ending output.written.items) }
 {
     let _ = text;
     let Some(job) = job_of(script) else {
@@ -63,7 +63,7 @@ fn output_of(
     fates: Vec<Box<dyn Fate + Send>>,
 ) -> Result<Output, AllocError>
     requires { length fates.items ≡ 17 }
-    ensures { IfOk result (λ output. Replays (map (λ f. opening_of (count f) (tells f)) fates.items) text.now output.ending output.written.items) }
+    ensures { IfOk result (λ output. Replays (map (λ f. opening_of (count f) (tells f)) fates.items) false text.now output.ending output.written.items) }
 {
     match read_script(alloc, text) {
         Ok(script) => run_output(alloc, text, &script, fates),
@@ -79,7 +79,7 @@ fn replay_source<S: Source, K: Sink>(
     fates: Vec<Box<dyn Fate + Send>>,
 ) -> Ending
     requires { length fates.items ≡ 17 }
-    ensures ends { Ends (Replays (map (λ f. opening_of (count f) (tells f)) fates.items)) result (S.faults source.old) (S.faults source.new)
+    ensures ends { Ends (Replays (map (λ f. opening_of (count f) (tells f)) fates.items) false) result (S.faults source.old) (S.faults source.new)
         (K.faults sink.old) (K.faults sink.new) (S.left source.old) (S.left source.new) (K.taken sink.old) (K.taken sink.new) }
     ensures finished { is_told result ≡ true → K.finished sink.new ≡ true }
 {
@@ -126,9 +126,10 @@ pub fn replay<R: Threads + Wait + Sync, S: Source, K: Sink>(
     // What is told whole is finished: no other end of a call has one of these statuses.
     ensures finished { is_told_by result.0 ≡ true → K.finished sink.new ≡ true }
 
-    // Where the script is to be run: the text of a right run of it, or what hinders it, with its cause.
+    // Where the script is to be run: the text of a right run of it, without the image, or what hinders it,
+    // with its cause.
     ensures run { task_said (map string_bytes words.now) ≡ Some RunIt
-        → HasEnded (Replays (map (λ f. opening_of (count f) (tells f)) fates.items)) result.0 (S.faults source.old) (S.faults source.new)
+        → HasEnded (Replays (map (λ f. opening_of (count f) (tells f)) fates.items) false) result.0 (S.faults source.old) (S.faults source.new)
         (K.faults sink.old) (K.faults sink.new) (S.left source.old) (S.left source.new) (K.taken sink.old) (K.taken sink.new) }
 
     // Where it is to be checked.

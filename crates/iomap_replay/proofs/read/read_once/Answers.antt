@@ -1,4 +1,4 @@
-use Rattle.std.proofs.Common.{◌≡◌, ℕ, Bool, true, Option, None, ◌%◌, ◌+◌, ◌≤◌, List, length, take, drop, replicate, sym, ◌∙◌, ap, subst}
+use Rattle.std.proofs.Common.{◌≡◌, ℕ, Bool, true, Option, None, ◌%◌, ◌+◌, ◌≤◌, List, length, take, drop, replicate, sym, ◌∙◌, ap, subst, arith}
 use Rattle.std.specs.Prelude.{All, IsTrue}
 use Rattle.std.proofs.lemmas.List.{length-replicate}
 use Rattle.iob_base.specs.declared.sector.Page.{Page}
@@ -93,15 +93,15 @@ returns-in-Ok-clause-outcome g c =
 
 -- a judgement that failed has its cause in the fate of the lane
 caused_by : (o : Opening) (old new : LaneView) (n : ℕ) (refusal : Option EventFault) (mapped : Bool) (fault : EventFault) (done : Done) (reply : Reply) → refusal ≡ None → fault ≡ Poison done
-    → RefusesNow refusal mapped (λ d. Tells n old d new) (new ≡ old) fault → IsServedBy o fault new → reply ≡ Err (Eio done.lane done.before done.after) 0 → IsCausedReply o old.number reply
+    → RefusesNow refusal mapped (λ d. Tells n old d new) (new ≡ old) fault → IsServedBy o fault new → reply ≡ Err (Eio done.lane done.before done.after) 0 → IsCausedReply o old.number new.count reply
 caused_by o old new n refusal mapped fault done reply none is refused served said =
     let T : EventFault → Type 0 = λ f. RefusesNow refusal mapped (λ d. Tells n old d new) (new ≡ old) f in
     let N : Option EventFault → Type 0 = λ r. RefusesNow r mapped (λ d. Tells n old d new) (new ≡ old) (Poison done) in
     let S : EventFault → Type 0 = λ f. IsServedBy o f new in
-    let R : Reply → Type 0 = λ r. IsCausedReply o old.number r in
+    let R : Reply → Type 0 = λ r. IsCausedReply o old.number new.count r in
     let told : IsTrue mapped × (done.failed ≡ true) × Tells n old done new = subst N none (subst T is refused) in
     let own : IsServed o done new = subst S is served in
-    subst R (sym said) (record { own = told.2.lane; rose = told.2.rose told.1; may = own.may told.1; bound = own.bound })
+    subst R (sym said) (record { own = told.2.lane; rose = told.2.rose told.1; counted = omega (arith, told.2.after); may = own.may told.1; bound = own.bound })
 
 pub returns-in-Err-Poison-clause-caused : goal.returns-in-Err-Poison-clause-caused
 returns-in-Err-Poison-clause-caused g c o serves =
