@@ -1,5 +1,5 @@
 -- The causes of the faults of a run of one read.
-use Rattle.std.proofs.Common.{◌≡◌, ℕ, zero, ◌+◌, ◌≤◌, ◌==◌, Bool, true, false, not, ◌&&◌, ◌||◌, List, [], ◌∷◌, Option, Some, None, IfSome, if◌then◌else◌, map, nat_le, refl, sym, ap, ◌∙◌, arith, eq-eqb, subst}
+use Rattle.std.proofs.Common.{◌≡◌, ℕ, ◌+◌, ◌≤◌, ◌==◌, Bool, true, false, not, ◌&&◌, ◌||◌, List, [], ◌∷◌, Option, Some, None, IfSome, if◌then◌else◌, map, nat_le, refl, sym, ap, ◌∙◌, arith, eq-eqb, subst}
 use Rattle.std.proofs.lemmas.Bool.{le-leb, eqb-true, and_parts}
 use Rattle.std.specs.Prelude.{IsTrue}
 use Rattle.std.specs.List.{list_all, list_any}
@@ -9,7 +9,7 @@ use Rattle.fault_device.specs.LaneView.{LaneView}
 use Rattle.fault_device.specs.Opening.{Opening, Serves, bound_told, distinct, has_armed, is_fresh, is_fresh_told, may_fail_told, opening_of}
 use Rattle.fault_device.specs.Ran.{RunsAsTold, armed_among, count_more}
 use Rattle.fault_device.specs.Telling.{Telling}
-use Rattle.iob_base.specs.Counts.{has_risen, count_after}
+use Rattle.iob_base.specs.Counts.{has_risen}
 use Rattle.iob_base.specs.DeviceBlock.{DeviceBlock}
 use Rattle.iob_base.specs.declared.answer.Fault.{Fault}
 use Rattle.iob_base.specs.declared.answer.Fault.TheVariants.{Eio, SyncEio, Again, NoMemory, NotAligned, TooFar, NoSpace, Worn}
@@ -17,13 +17,12 @@ use Rattle.iob_base.specs.declared.answer.Reply.{Reply}
 use Rattle.iob_base.specs.declared.answer.Reply.TheVariants.{Ok, Err}
 use Rattle.iob_base.specs.declared.answer.Stop.TheVariants.{Whole, End}
 use Rattle.iob_base.specs.declared.answer.Stop.TheVariants.{Fault as Short}
-use Rattle.io_model.specs.Causes.{AreCaused, LaneStart, are_apart, distinct_of, distinct_to, fails_as_armed, fault_told, is_bounded, is_done_mark, is_in_sum, is_none_or, is_own_bound, is_own_rise, is_short_of_space, is_some_number, is_sync_rise, is_unworn, may_fail_as, onto_rises, seen_by_caller, some_may_fail, starts_at_zero}
+use Rattle.io_model.specs.Causes.{AreCaused, are_apart, distinct_of, distinct_to, fails_as_armed, fault_told, is_bounded, is_done_mark, is_in_sum, is_none_or, is_own_bound, is_own_rise, is_short_of_space, is_some_number, is_sync_rise, is_unworn, may_fail_as, onto_rises, seen_by_caller, some_may_fail, starts_at_zero}
 use Rattle.io_model.specs.Journals.{each_block}
 use Rattle.io_model.specs.Lists.{both_from, each_pair}
 use Rattle.io_model.specs.declared.file.FileEnd.{FileEnd}
 use Rattle.io_model.specs.declared.run.CallEnd.{CallEnd}
 use Rattle.io_model.specs.declared.run.LaneEnd.{LaneEnd}
-use Rattle.io_model.specs.declared.script.Script.{Script}
 use Rattle.iomap_replay.specs.Causes.{IsCausedOn, IsCausedReply}
 use Rattle.iomap_replay.specs.Jobs.{one_call, script_of_job}
 use Rattle.iomap_replay.specs.OneRead.{is_read_fault}

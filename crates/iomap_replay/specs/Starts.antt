@@ -1,4 +1,4 @@
-use Rattle.std.specs.Prelude.{ℕ, zero, ◌+◌, Bool, ◌==◌, if◌then◌else◌, List, [], ◌∷◌}
+use Rattle.std.specs.Prelude.{ℕ, ◌+◌, Bool, ◌==◌, if◌then◌else◌, List, [], ◌∷◌}
 use Rattle.std.specs.Option.{option_map}
 use Rattle.fault_device.specs.Opening.{Opening, is_fresh, opening_with}
 use Rattle.fault_device.specs.Telling.{Telling}
