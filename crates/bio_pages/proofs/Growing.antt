@@ -1,5 +1,5 @@
 -- How the counts of a pass and of a lane grow.
-use Rattle.std.proofs.Common.{◌≡◌, ℕ, ◌+◌, ◌≤◌, List, [], ◌∷◌, ◌++◌, length, refl, sym, ap, ◌∙◌, arith, length-append}
+use Rattle.std.proofs.Common.{◌≡◌, ℕ, ◌+◌, [], ◌∷◌, length, refl, sym, ap, ◌∙◌, arith, length-append}
 use Rattle.fault_device.specs.LaneView.{LaneView}
 use Rattle.fault_device.specs.Ran.{count_more}
 use Rattle.fault_device.proofs.Runs.{ran_none, ran_more, count_more-append}

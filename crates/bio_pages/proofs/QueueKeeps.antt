@@ -1,7 +1,5 @@
 -- Each move keeps the rule of a queue of bios.
-use Rattle.std.proofs.Common.{◌≡◌, ℕ, ◌+◌, List, [], ◌∷◌, ◌++◌, set, refl, sym, ap, ◌∙◌, append_assoc, arith}
-use mathlib.Core.Option.{some}
-use lib.ListN.{get_elem?}
+use Rattle.std.proofs.Common.{◌≡◌, ℕ, ◌+◌, [], ◌∷◌, ◌++◌, set, refl, sym, ap, ◌∙◌, append_assoc, arith}
 use Rattle.crossbeam_queue.specs.Fifo.{Pushes, Pops, Forks, Learns}
 use Rattle.turn_cell.specs.Stakes.{total}
 use Rattle.turn_cell.proofs.Sums.{total-set, total-append}

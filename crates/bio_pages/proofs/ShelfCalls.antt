@@ -1,38 +1,23 @@
 -- What the steps of one call on a shelf come to.
-use Rattle.std.proofs.Common.{◌≡◌, ℕ, ◌+◌, ◌-◌, ◌%◌, ◌^◌, true, List, [], ◌∷◌, eqb, eq-eqb, ne_eqb, set, Option, Some, None, refl, sym, ap, ◌∙◌, subst}
-use Rattle.std.specs.Prelude.{if◌then◌else◌}
-use mathlib.Core.Logic.{dite}
-use native.Mathlib.Decide.{ℕ_discrete}
-use Rattle.folio_bits.specs.declared.countdown.Outcome.TheVariants.{Last, More}
-use mathlib.Core.Option.{some, some-injective}
-use lib.ListN.{get_elem?}
+use Rattle.std.proofs.Common.{◌≡◌, ℕ, ◌+◌, ◌-◌, ◌%◌, ◌^◌, true, List, [], ◌∷◌, set, Option, Some, None, refl, sym, ap, ◌∙◌, subst}
+use mathlib.Core.Option.{some-injective}
 use Rattle.atomic_table.specs.Seated.{TableId}
 use Rattle.atomic_table.specs.Table.{State, Me, Allows, rest}
 use Rattle.fault_device.specs.declared.lane.Done.{Done}
 use Rattle.bio_pages.specs.declared.bio.Bio.{Bio}
 use Rattle.bio_pages.specs.declared.errand.Errand.{Errand}
-use Rattle.bio_pages.specs.declared.errand.Doing.TheVariants.{Idle, Waiting, Filling, Picking}
+use Rattle.bio_pages.specs.declared.errand.Doing.TheVariants.{Idle, Waiting, Picking}
 use Rattle.bio_pages.specs.declared.errand.Known.{Known}
 use Rattle.bio_pages.specs.Running.{IsRun}
-use Rattle.bio_pages.specs.Shelf.{errand_of, known_view, without_note, outcome_at}
+use Rattle.bio_pages.specs.Shelf.{errand_of, known_view, without_note}
 use Rattle.bio_pages.specs.ShelfRule.{errand_to, Shelved}
 use Rattle.bio_pages.specs.ShelfSteps.{filling, picking, emptied, IsAtRest, IsNotedAt, IsTaken, IsCounted, IsPicked, IsCleared, Picked}
+use Rattle.bio_pages.proofs.ShelfSums.{some-same}
 use Rattle.bio_pages.proofs.ShelfMoves.{fills, counts, picks, clears}
 
 -- a step that tells something tells what follows from it
 allows-more : {S V : Type 0} (holds : State S V → Type 0) (slots id : ℕ) (me : Me S V) (i : ℕ) (f : ℕ → ℕ) (P Q : ℕ → Me S V → Type 0) → Allows holds slots id me i f P → ((n : ℕ) (w : Me S V) → P n w → Q n w) → Allows holds slots id me i f Q
 allows-more holds slots id me i f P Q allows follows s r len at below = let x = allows s r len at below in (x.0, x.1, x.2, x.3, follows _ _ x.4)
-
--- a seat that is told Last found its own amount
-pub last-at : (amount found : ℕ) → outcome_at amount found ≡ Last → (eqb found amount ≡ true) × (found ≡ amount)
-last-at amount found told =
-    dite (ℕ_discrete found amount) (λ e. (eq-eqb found amount e, e)) (λ ne. absurd (more-last (sym (ap (λ b. if b then Last else More) (ne_eqb found amount ne)) ∙ told)))
-  where
-    more-last : More ≡ Last → ⊥
-    more-last e = cc
-
-pub some-same : {A : Type 0} {x y : A} → Some x ≡ Some y → x ≡ y
-some-same e = cc
 
 module _ {A : Type 0} where
   abbrev second : A → List (ℕ × A) → A

@@ -1,10 +1,10 @@
 -- A shelf starts, is looked at, and its owner gives errands away: the rule holds.
-use Rattle.std.proofs.Common.{◌≡◌, ◌≢◌, ℕ, zero, suc, ◌+◌, ◌-◌, ◌<◌, ◌≤◌, eqb, true, false, List, [], ◌∷◌, ◌++◌, length, map, set, replicate, Option, Some, None, refl, sym, ap, ◌∙◌, subst, ⊎_elim, arith, length-set}
-use Rattle.std.specs.Prelude.{slice_index, slice_set}
+use Rattle.std.proofs.Common.{◌≡◌, ◌≢◌, ℕ, zero, suc, ◌+◌, ◌-◌, ◌<◌, ◌≤◌, eqb, true, List, [], ◌∷◌, ◌++◌, length, map, set, replicate, Option, Some, None, refl, sym, ap, ◌∙◌, subst, ⊎_elim, arith, length-set}
+use Rattle.std.specs.Prelude.{slice_index}
 use Rattle.std.proofs.lemmas.Bool.Decides.{nat_tests}
 use mathlib.Core.Option.{some, none, some-injective, some-ne-none}
 use lib.ListN.{get_elem?}
-use Rattle.atomic_table.specs.Table.{State, Me, keeps, opening, Allows, Splits}
+use Rattle.atomic_table.specs.Table.{Me, keeps, opening, Allows, Splits}
 use Rattle.atomic_table.proofs.Lists.{at_snoc, at_longer, set_else}
 use Rattle.fault_device.specs.declared.lane.Done.{Done}
 use Rattle.turn_cell.specs.Stakes.{total}
@@ -12,12 +12,11 @@ use Rattle.turn_cell.proofs.Sums.{total-set, total-append, total-at}
 use Rattle.turn_cell.proofs.Stakes.{set-there, map-there}
 use Rattle.bio_pages.specs.declared.bio.Bio.{Bio}
 use Rattle.bio_pages.specs.declared.errand.Errand.{Errand}
-use Rattle.bio_pages.specs.declared.errand.Doing.{Doing}
 use Rattle.bio_pages.specs.declared.errand.Doing.TheVariants.{Idle, Waiting}
 use Rattle.bio_pages.specs.declared.errand.Known.{Known}
 use Rattle.bio_pages.specs.ShelfRule.{amount_of, waits, moves, waiting_at, moving_at, Follows, FitsSeat, FitsSlot, Shelved}
 use Rattle.bio_pages.specs.ShelfSteps.{first_known, lender, sent_out, looked_at, IsAtRest}
-use Rattle.bio_pages.proofs.ShelfSums.{owner-idle, words-set, word-is, all-set, there-too, at-replicate, Home, at-here, at-else, follows-else, waiting-set, moving-set, slot-same, slots-at}
+use Rattle.bio_pages.proofs.ShelfSums.{never, owner-idle, words-set, word-is, all-set, there-too, at-replicate, Home, at-here, at-else, follows-else, waiting-set, moving-set, slot-same, slots-at}
 
 same-number : (n m : ℕ) → eqb n m ≡ true → n ≡ m
 same-number n m e = grind (arith, nat_tests)
@@ -25,9 +24,6 @@ same-number n m e = grind (arith, nat_tests)
 as-long : {A B C : Type 0} (f : A → B) (a : A) (c : C) (n : ℕ) → length (replicate n c) ≡ length (map f (replicate n a))
 as-long f a c zero = refl
 as-long f a c (suc n) = ap suc (as-long f a c n)
-
-never : false ≡ true → ⊥
-never e = cc
 
 module _ {T : Type 0} where
   waits-for : {e : Errand T} → Idle ≡ Waiting e → ⊥

@@ -1,9 +1,9 @@
 -- A slot is filled or emptied, and the rule of a shelf holds.
-use Rattle.std.proofs.Common.{◌≡◌, ◌≢◌, ℕ, ◌+◌, ◌-◌, ◌%◌, ◌^◌, ◌<◌, ◌≤◌, true, false, List, [], ◌∷◌, length, set, Option, Some, None, refl, sym, ap, ◌∙◌, subst, arith, length-set}
-use Rattle.std.specs.Prelude.{slice_index, slice_set}
+use Rattle.std.proofs.Common.{◌≡◌, ◌≢◌, ℕ, ◌+◌, ◌-◌, ◌%◌, ◌^◌, ◌≤◌, true, List, [], ◌∷◌, set, Option, Some, None, refl, sym, ap, ◌∙◌, subst, arith, length-set}
+use Rattle.std.specs.Prelude.{slice_index}
 use mathlib.Core.Option.{some, none}
 use lib.ListN.{get_elem?}
-use Rattle.atomic_table.specs.Table.{State, Me, keeps, takes, gives, Allows}
+use Rattle.atomic_table.specs.Table.{takes, gives, Allows}
 use Rattle.atomic_table.proofs.Lists.{set_else}
 use Rattle.fault_device.specs.declared.lane.Done.{Done}
 use Rattle.turn_cell.specs.Stakes.{total}
@@ -11,16 +11,12 @@ use Rattle.turn_cell.proofs.Sums.{total-set, total-at, total-two, total-sole, to
 use Rattle.turn_cell.proofs.Stakes.{set-there}
 use Rattle.bio_pages.specs.declared.bio.Bio.{Bio}
 use Rattle.bio_pages.specs.declared.errand.Errand.{Errand}
-use Rattle.bio_pages.specs.declared.errand.Doing.{Doing}
 use Rattle.bio_pages.specs.declared.errand.Doing.TheVariants.{Idle, Waiting, Filling, Picking}
 use Rattle.bio_pages.specs.declared.errand.Known.{Known}
 use Rattle.bio_pages.specs.Running.{IsRun}
-use Rattle.bio_pages.specs.ShelfRule.{errand_to, amount_of, waits, moves, waiting_at, moving_at, HasItsBio, Follows, FitsSeat, FitsSlot, Shelved}
+use Rattle.bio_pages.specs.ShelfRule.{errand_to, amount_of, waits, moves, waiting_at, moving_at, HasItsBio, Follows, FitsSeat, Shelved}
 use Rattle.bio_pages.specs.ShelfSteps.{filling, counted_down, picking, emptied, IsAtRest, Picked}
-use Rattle.bio_pages.proofs.ShelfSums.{owner-idle, words-set, word-is, all-set, there-too, Home, at-here, at-else, home-empty, home-full, noted-once, quiet, follows-else, waiting-set, moving-set, slot-same, slots-at}
-
-never : false ≡ true → ⊥
-never e = cc
+use Rattle.bio_pages.proofs.ShelfSums.{never, owner-idle, words-set, word-is, all-set, there-too, at-here, at-else, home-empty, home-full, quiet, follows-else, waiting-set, moving-set, slot-same, slots-at}
 
 module _ {T : Type 0} where
   -- a seat may take the slot of its errand, which is empty

@@ -1,5 +1,5 @@
 -- What stays of the rule of a shelf where one seat's view, or one slot, changes.
-use Rattle.std.proofs.Common.{◌≡◌, ◌≢◌, ℕ, zero, suc, ◌+◌, ◌<◌, ◌≤◌, eqb, List, [], ◌∷◌, length, set, replicate, Option, Some, None, refl, sym, ap, ◌∙◌, subst, ⊎_elim, arith, eq-eqb, ne_eqb}
+use Rattle.std.proofs.Common.{◌≡◌, ◌≢◌, ℕ, zero, suc, ◌+◌, List, [], ◌∷◌, length, set, replicate, true, false, Option, Some, None, refl, sym, ap, ◌∙◌, subst, ⊎_elim, arith, eq-eqb, ne_eqb}
 use Rattle.std.specs.Prelude.{slice_index, slice_set, if◌then◌else◌}
 use mathlib.Core.Option.{some, none, some-injective, some-ne-none}
 use mathlib.Core.Logic.{dite}
@@ -8,7 +8,7 @@ use lib.ListN.{get_elem?}
 use Rattle.atomic_table.proofs.Lists.{at_set, set_else}
 use Rattle.fault_device.specs.declared.lane.Done.{Done}
 use Rattle.turn_cell.specs.Stakes.{total}
-use Rattle.turn_cell.proofs.Sums.{total-set, total-at, total-two}
+use Rattle.turn_cell.proofs.Sums.{total-set}
 use Rattle.bio_pages.specs.declared.bio.Bio.{Bio}
 use Rattle.bio_pages.specs.declared.errand.Errand.{Errand}
 use Rattle.bio_pages.specs.declared.errand.Doing.{Doing}
@@ -16,7 +16,7 @@ use Rattle.bio_pages.specs.declared.errand.Doing.TheVariants.{Idle, Waiting, Fil
 use Rattle.bio_pages.specs.declared.errand.Known.{Known}
 use Rattle.bio_pages.specs.Shelf.{errand_of}
 use Rattle.bio_pages.specs.ShelfSteps.{IsAtRest}
-use Rattle.bio_pages.specs.ShelfRule.{at_slot, waits, moves, waiting_at, moving_at, noted, away, full, Follows, FitsSlot}
+use Rattle.bio_pages.specs.ShelfRule.{at_slot, waits, moves, waiting_at, moving_at, away, full, Follows, FitsSlot}
 
 pub words-set : (words : List ℕ) (n m k : ℕ) → words ≡ n ∷ [] → m ≡ k → slice_set words 0 m ≡ k ∷ []
 words-set words n m k is e = ap (λ ws. slice_set ws 0 m) is ∙ ap (λ x. x ∷ []) e
@@ -24,10 +24,13 @@ words-set words n m k is e = ap (λ ws. slice_set ws 0 m) is ∙ ap (λ x. x ∷
 pub word-is : (words : List ℕ) (n : ℕ) → words ≡ n ∷ [] → slice_index words 0 ≡ n
 word-is words n is = ap (λ ws. slice_index ws 0) is
 
+pub never : false ≡ true → ⊥
+never e = cc
+
 none-some : {A : Type 0} {x : A} → None ≡ Some x → ⊥
 none-some e = cc
 
-some-same : {A : Type 0} {x y : A} → Some x ≡ Some y → x ≡ y
+pub some-same : {A : Type 0} {x y : A} → Some x ≡ Some y → x ≡ y
 some-same e = cc
 
 module _ {A : Type 0} where
@@ -73,10 +76,6 @@ module _ {T : Type 0} where
   home-full none f = absurd (omega arith)
   home-full (some None) f = absurd (omega arith)
   home-full (some (Some p)) f = (p, refl)
-
-  pub noted-once : (note : Option (Bio T)) → noted note ≤ 1
-  noted-once None = omega arith
-  noted-once (Some b) = omega arith
 
   -- a seat without an amount that is not the owner's neither waits for a slot nor has one
   pub quiet : (k number amount : ℕ) (notes : List (Option (Bio T))) (d : Doing T) → Follows notes number amount d → amount ≡ 0 → number ≢ 0 → (waits k d ≡ 0) × (moves k d ≡ 0)

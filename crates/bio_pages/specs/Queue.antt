@@ -2,9 +2,7 @@
 use Rattle.std.specs.Prelude.{◌≡◌, ℕ, ◌+◌, ◌≤◌, List, [], ◌∷◌, ◌++◌, length, refl}
 use Rattle.std.specs.Coded.{Coded, code_by, coded×, coded_ℕ}
 use Rattle.atomic_table.specs.Seated.{TableId, table_id_coded}
-use Rattle.atomic_table.specs.declared.shared.Seat.{Seat}
-use Rattle.crossbeam_queue.specs.Passes.{Pass, view, ruled_capacity}
-use Rattle.crossbeam_queue.specs.declared.array_queue.Doing.{Doing}
+use Rattle.crossbeam_queue.specs.Passes.{Pass, view}
 use Rattle.crossbeam_queue.specs.declared.array_queue.Slotted.{Slotted}
 use Rattle.iob_base.specs.Counts.{count_after}
 use Rattle.fault_device.specs.Ran.{count_more}

@@ -1,4 +1,4 @@
-use Rattle.std.proofs.Common.{rules, ◌≡◌, ◌∷◌, [], Option, Some, None, refl, sym, ap, ◌∙◌, subst}
+use Rattle.std.proofs.Common.{rules, ◌∷◌, Option, Some, None, refl, sym, ap, ◌∙◌, subst}
 use Rattle.std.specs.Option.{IsSome}
 use lib.ListN.{get_elem?}
 use Rattle.atomic_table.specs.Table.{rest}
@@ -7,8 +7,9 @@ use Rattle.bio_pages.specs.declared.bio.Bio.{Bio}
 use Rattle.bio_pages.specs.Running.{IsRun}
 use Rattle.bio_pages.specs.Shelf.{SeatView, known_view, without_note}
 use Rattle.bio_pages.specs.ShelfRule.{errand_to}
-use Rattle.bio_pages.specs.ShelfSteps.{picking, emptied, IsAtRest}
-use Rattle.bio_pages.proofs.ShelfCalls.{some-same, first-is, found-is, picks-at, clears-at, emptied-view}
+use Rattle.bio_pages.specs.ShelfSteps.{emptied, IsAtRest}
+use Rattle.bio_pages.proofs.ShelfSums.{some-same}
+use Rattle.bio_pages.proofs.ShelfCalls.{first-is, found-is, picks-at, clears-at, emptied-view}
 use Rattle.bio_pages.proofs.shelf.BioShelf.gather.Goals as goal
 
 pub pick-requires-clause-step : goal.pick-requires-clause-step

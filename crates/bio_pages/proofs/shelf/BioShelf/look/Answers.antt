@@ -1,7 +1,5 @@
-use Rattle.std.proofs.Common.{rules, ◌∙◌, ap}
-use Rattle.bio_pages.specs.Shelf.{SeatView}
+use Rattle.std.proofs.Common.{rules}
 use Rattle.bio_pages.proofs.ShelfKeeps.{looks}
-use Rattle.bio_pages.proofs.ShelfCalls.{last-at}
 use Rattle.bio_pages.proofs.shelf.BioShelf.look.Goals as goal
 
 pub load-found-requires : goal.load-found-requires

@@ -1,5 +1,5 @@
-use Rattle.std.proofs.Common.{rules, ◌≡◌, ◌∷◌, [], Some, ap, ◌∙◌}
-use Rattle.atomic_table.specs.Table.{Me, rest}
+use Rattle.std.proofs.Common.{rules, ◌∷◌, Some, ap, ◌∙◌}
+use Rattle.atomic_table.specs.Table.{rest}
 use Rattle.fault_device.specs.declared.lane.Done.{Done}
 use Rattle.bio_pages.specs.declared.bio.Bio.{Bio}
 use Rattle.bio_pages.specs.Shelf.{SeatView}

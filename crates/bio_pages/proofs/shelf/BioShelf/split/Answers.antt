@@ -1,8 +1,4 @@
-use Rattle.std.proofs.Common.{◌≡◌, ℕ, ◌<◌, ◌-◌, List, Some, ap, ◌∙◌, sym, subst, arith}
-use Rattle.atomic_table.specs.Table.{Me}
-use Rattle.fault_device.specs.declared.lane.Done.{Done}
-use Rattle.bio_pages.specs.declared.bio.Bio.{Bio}
-use Rattle.bio_pages.specs.declared.errand.Known.{Known}
+use Rattle.std.proofs.Common.{◌≡◌, ◌<◌, ◌-◌, ap, ◌∙◌, sym, subst, arith}
 use Rattle.bio_pages.specs.Shelf.{SeatView, known_view, with_errand, IsFree}
 use Rattle.bio_pages.specs.ShelfRule.{errand_to}
 use Rattle.bio_pages.specs.ShelfSteps.{IsAtRest}

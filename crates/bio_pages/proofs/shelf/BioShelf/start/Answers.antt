@@ -1,5 +1,4 @@
 use Rattle.bio_pages.proofs.ShelfKeeps.{starts}
-use Rattle.bio_pages.proofs.ShelfMoves.{fills}
 use Rattle.bio_pages.proofs.shelf.BioShelf.start.Goals as goal
 
 pub vacant-requires : goal.vacant-requires
