@@ -1,10 +1,10 @@
 -- How the counts of a pass and of a lane grow.
 use Rattle.std.proofs.Common.{◌≡◌, ℕ, ◌+◌, [], ◌∷◌, length, refl, sym, ap, ◌∙◌, arith, length-append}
 use Rattle.fault_device.specs.LaneView.{LaneView}
-use Rattle.fault_device.specs.Ran.{count_more}
+use Rattle.fault_device.specs.Ran.{Ran, count_more}
 use Rattle.fault_device.proofs.Runs.{ran_none, ran_more, count_more-append}
 use Rattle.bio_pages.specs.declared.sent.Sent.{Sent}
-use Rattle.bio_pages.specs.Queue.{PassView, Grew, with_pushed, found_full}
+use Rattle.bio_pages.specs.Queue.{PassView, Grew, RanPopped, with_pushed, with_popped, found_full}
 use Rattle.bio_pages.specs.Running.{HasRun}
 
 pub lane-none : (v : LaneView) → HasRun v v
@@ -35,3 +35,14 @@ module _ {T : Type 0} where
 
   pub grew-full : (p q : PassView T) → q ≡ found_full p → Grew 1 p q
   grew-full p q is = record { fulls = 1; pushes = 0; full = ap (λ (x : PassView T). x.full) is; pushed = ap (λ (x : PassView T). length x.pushed) is ∙ (omega arith); enough = omega arith }
+
+  pub popped-none : (p : PassView T) (v : LaneView) → RanPopped p p v v
+  popped-none p v = record { popped = 0; passed = omega arith; ran = ran_none v }
+
+  -- one more bio is popped and run
+  pub popped-one : (p q r : PassView T) (u v w : LaneView) (sent : Sent T) → RanPopped p q u v → r ≡ with_popped q sent → Ran 1 v w → RanPopped p r u w
+  popped-one p q r u v w sent x is ran = record {
+    popped = x.popped + 1;
+    passed = (let e = ap (λ (y : PassView T). length y.popped) is ∙ length-append q.popped (sent ∷ []) in let n = x.passed in omega arith);
+    ran = ran_more x.popped 1 u v w x.ran ran;
+  }

@@ -5,7 +5,8 @@ use Rattle.atomic_table.specs.Seated.{TableId, table_id_coded}
 use Rattle.crossbeam_queue.specs.Passes.{Pass, view}
 use Rattle.crossbeam_queue.specs.declared.array_queue.Slotted.{Slotted}
 use Rattle.iob_base.specs.Counts.{count_after}
-use Rattle.fault_device.specs.Ran.{count_more}
+use Rattle.fault_device.specs.LaneView.{LaneView}
+use Rattle.fault_device.specs.Ran.{Ran, count_more}
 use Rattle.bio_pages.specs.declared.sent.Sent.{Sent}
 use Rattle.bio_pages.specs.declared.queue_rule.Passed.{Passed}
 use Rattle.bio_pages.specs.QueueRule.{Stood, WasPushed}
@@ -75,3 +76,9 @@ pub record Grew {T : Type 0} (n : ℕ) (before after : PassView T) : Type 0 wher
   pub full : after.full ≡ count_more fulls before.full
   pub pushed : length after.pushed ≡ length before.pushed + pushes
   pub enough : n ≤ pushes + fulls
+
+-- So many bios were popped by a pass, and a lane made a judgement for each
+pub record RanPopped {T : Type 0} (before after : PassView T) (old new : LaneView) : Type 0 where
+  pub popped : ℕ
+  pub passed : length after.popped ≡ length before.popped + popped
+  pub ran : Ran popped old new

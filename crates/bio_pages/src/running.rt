@@ -4,7 +4,7 @@ ghost use Rattle.std.specs.Arc.{arc_value};
 ghost use Rattle.fault_device.specs.LaneView.{lane_seen};
 ghost use Rattle.fault_device.specs.Ran.{Ran};
 ghost use Rattle.fault_device.specs.Transfer.{CanTransfer};
-ghost use Rattle.bio_pages.specs.Queue.{Grew};
+ghost use Rattle.bio_pages.specs.Queue.{Grew, RanPopped};
 ghost use Rattle.bio_pages.specs.Running.{HasRun};
 ghost use Rattle.bio_pages.specs.Shelf.{IsFree, outcome_at, seen_last, spent, with_errand};
 
@@ -94,7 +94,7 @@ pub fn await_last<T: Drop, R: Wait>(
     ensures last { owner.new ≡ seen_last owner.old }
     ensures pass { pass.new.queue ≡ pass.old.queue }
     ensures pushed { Grew 0 pass.old pass.new }
-    ensures lane { HasRun (lane_seen count tells lane.old) (lane_seen count tells lane.new) }
+    ensures ran { RanPopped pass.old pass.new (lane_seen count tells lane.old) (lane_seen count tells lane.new) }
 {
     for _ in rt.forever() {
         if let Outcome::Last = shelf.look(owner) {
