@@ -4,3 +4,7 @@ mod ShelfMoves
 mod ShelfCalls
 mod QueueKeeps
 mod Growing
+mod Twice
+mod Listed
+mod Lending
+mod WholeList

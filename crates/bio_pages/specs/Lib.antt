@@ -4,3 +4,4 @@ pub mod ShelfSteps
 pub mod Shelf
 pub mod QueueRule
 pub mod Queue
+pub mod Lists

@@ -62,6 +62,10 @@ module _ {T : Type 0} where
   abbrev pub seen_last : SeatView T → SeatView T
   seen_last s = record s { last = true; found = s.amount }
 
+  -- the seat with another amount
+  abbrev pub with_amount : SeatView T → ℕ → SeatView T
+  with_amount s amount = record s { amount = amount }
+
   -- the owner after it emptied a slot
   abbrev pub without_note : SeatView T → ℕ → SeatView T
   without_note s slot = record s { notes = slice_set s.notes slot None }
