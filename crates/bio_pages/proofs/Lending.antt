@@ -1,14 +1,13 @@
 -- What the owner of a shelf notes while a list of bios goes out and comes back.
-use Rattle.std.proofs.Common.{◌≡◌, ◌≢◌, ℕ, zero, suc, ◌+◌, ◌-◌, ◌<◌, ◌≤◌, true, List, [], ◌∷◌, Option, Some, None, set, take, drop, length, refl, sym, ap, ◌∙◌, subst, arith}
-use mathlib.Core.Option.{some, none, some-injective, some-ne-none}
+use Rattle.std.proofs.Common.{◌≡◌, ◌≢◌, ℕ, zero, suc, ◌-◌, ◌<◌, List, [], ◌∷◌, Some, None, set, length, refl, sym, ap, ◌∙◌, arith}
+use mathlib.Core.Option.{some, some-injective, some-ne-none}
 use mathlib.Core.Logic.{dite}
 use native.Mathlib.Decide.{ℕ_discrete}
 use lib.ListN.{get_elem?}
 use Rattle.atomic_table.proofs.Lists.{set_here, set_else}
-use Rattle.fault_device.specs.Transfer.{CanTransfer}
 use Rattle.bio_pages.specs.declared.bio.Bio.{Bio}
-use Rattle.bio_pages.specs.Lists.{AreFree, AreOut, CanSend, Emptied, Lent}
-use Rattle.bio_pages.specs.Shelf.{SeatView, IsFree, IsNotedFor, with_errand, without_note, seen_last, with_amount}
+use Rattle.bio_pages.specs.Lists.{Emptied, Lent}
+use Rattle.bio_pages.specs.Shelf.{SeatView, IsFree, IsNotedFor, with_errand, without_note}
 
 module _ {A : Type 0} where
   pub at-below : (xs : List A) (i : ℕ) (a : A) → get_elem? xs i ≡ some a → i < length xs

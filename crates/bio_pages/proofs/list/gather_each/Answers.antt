@@ -1,7 +1,7 @@
-use Rattle.std.proofs.Common.{◌≡◌, ◌++◌, ◌∷◌, [], ◌≤◌, ◌<◌, length, refl, sym, ap, ◌∙◌, subst, arith}
+use Rattle.std.proofs.Common.{◌++◌, ◌∷◌, [], refl, sym, ap, ◌∙◌, subst, arith}
 use Rattle.bio_pages.specs.Lists.{OwnFailures}
 use Rattle.bio_pages.proofs.Growing.{lane-none, lane-then}
-use Rattle.bio_pages.proofs.Listed.{take-all, there, turned-came, turned-none}
+use Rattle.bio_pages.proofs.Listed.{there, turned-came, turned-none}
 use Rattle.bio_pages.proofs.Lending.{emptied-none, emptied-next}
 use Rattle.bio_pages.proofs.Twice.{can-again}
 use Rattle.bio_pages.proofs.list.gather_each.Goals as goal

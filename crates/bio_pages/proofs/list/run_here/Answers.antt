@@ -1,10 +1,9 @@
-use Rattle.std.proofs.Common.{◌≡◌, ◌++◌, ◌∷◌, [], ◌<◌, ◌≤◌, length, take, refl, sym, ap, ◌∙◌, subst, arith}
+use Rattle.std.proofs.Common.{◌++◌, ◌∷◌, [], refl, sym, ap, ◌∙◌, subst, arith}
 use Rattle.fault_device.specs.Transfer.{CanTransfer}
 use Rattle.bio_pages.specs.declared.bio.Bio.{Bio}
 use Rattle.bio_pages.specs.Running.{IsRun}
-use Rattle.atomic_table.proofs.Lists.{drop_at}
 use Rattle.bio_pages.proofs.Growing.{lane-none, lane-then}
-use Rattle.bio_pages.proofs.Listed.{at-take, first-of, own-then, there, turned-here, turned-none, head-is}
+use Rattle.bio_pages.proofs.Listed.{at-take, own-then, there, turned-here, turned-none, head-is}
 use Rattle.bio_pages.proofs.list.run_here.Goals as goal
 
 pub loop-init : goal.loop-init

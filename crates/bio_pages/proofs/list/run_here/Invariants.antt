@@ -1,6 +1,5 @@
-use Rattle.std.proofs.Common.{◌≡◌, ℕ, ◌+◌, take, drop, vec_len, vec_capacity}
-use Rattle.fault_device.specs.LaneView.{LaneView, lane_seen}
-use Rattle.fault_device.specs.declared.lane.Lane.{Lane}
+use Rattle.std.proofs.Common.{◌≡◌, ◌+◌, take, drop, vec_len, vec_capacity}
+use Rattle.fault_device.specs.LaneView.{lane_seen}
 use Rattle.bio_pages.specs.Lists.{OwnFailures, Turned}
 use Rattle.bio_pages.specs.Running.{HasRun}
 use Rattle.bio_pages.proofs.list.run_here.Given as goal

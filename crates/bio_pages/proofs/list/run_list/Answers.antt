@@ -1,10 +1,8 @@
-use Rattle.std.proofs.Common.{◌≡◌, ◌≤◌, ◌+◌, ◌-◌, ◌++◌, take, drop, length, refl, sym, ap, ◌∙◌, subst, arith}
-use lib.ListN.{get_elem?}
+use Rattle.std.proofs.Common.{◌≡◌, ◌+◌, ◌-◌, ◌++◌, take, drop, sym, ap, ◌∙◌, subst, arith}
 use Rattle.bio_pages.specs.Lists.{AreOut, CanRun, Turned}
 use Rattle.bio_pages.specs.Queue.{Grew}
-use Rattle.bio_pages.specs.Shelf.{SeatView}
 use Rattle.bio_pages.proofs.Growing.{lane-then, grew-then}
-use Rattle.bio_pages.proofs.WholeList.{amount-same, back-again, length-of-drop, length-of-take, of-drop, of-take, take-front, went-out, whole-run}
+use Rattle.bio_pages.proofs.WholeList.{amount-same, back-again, length-of-drop, of-drop, take-front, went-out, whole-run}
 use Rattle.bio_pages.proofs.list.run_list.Goals as goal
 
 pub gather_each-requires-clause-noted : goal.gather_each-requires-clause-noted

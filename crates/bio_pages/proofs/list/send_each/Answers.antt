@@ -1,4 +1,4 @@
-use Rattle.std.proofs.Common.{◌≡◌, ◌≤◌, ℕ, suc, drop, refl, sym, ap, ◌∙◌, subst, arith}
+use Rattle.std.proofs.Common.{◌≡◌, suc, drop, refl, sym, ap, ◌∙◌, subst, arith}
 use Rattle.fault_device.specs.Transfer.{CanTransfer}
 use Rattle.bio_pages.specs.declared.bio.Bio.{Bio}
 use Rattle.bio_pages.specs.Lists.{Lent}
