@@ -1,4 +1,4 @@
-use Rattle.std.proofs.Common.{◌≡◌, ◌+◌, ◌-◌, ◌*◌, ◌++◌, ℕ, List, All, arith, sym, ap, ◌∙◌, subst}
+use Rattle.std.proofs.Common.{◌≡◌, ◌+◌, ◌-◌, ◌*◌, ◌++◌, ℕ, List, [], All, arith, sym, ap, ◌∙◌, subst}
 use Rattle.iob_base.specs.Parting.{IsBare, bare_parts, pages_of}
 use Rattle.iob_base.specs.declared.part.Part.{Part}
 use Rattle.iob_base.specs.declared.sector.Page.{Page}
@@ -7,25 +7,23 @@ use Rattle.iov_iter.specs.IovView.{IovView, moved_to}
 use Rattle.iov_iter.specs.Moving.{CanPut, after_put, after_take, next_pages, page_of}
 use Rattle.iov_iter.proofs.LawLemmas.{taken_pages_back, taken_pages_fit}
 use Rattle.worked_cells.proofs.iovs.lends_two_pages.Goals as goal
-use Rattle.worked_cells.proofs.iovs.lends_two_pages.Goals.{After-take_pages}
 
-parts_are : (c : After-take_pages) → c.take_pages.new.into ≡ bare_parts (next_pages c.args.iov.now 2)
-parts_are c = c.take_pages.ensures.pages ∙ ap (λ (ps : List Part). ps ++ bare_parts (next_pages c.args.iov.now 2)) c.requires.empty
-
-pages_are : (c : After-take_pages) → pages_of c.take_pages.new.into ≡ next_pages c.args.iov.now 2
-pages_are c = ap pages_of (parts_are c) ∙ pages_of-bare (next_pages c.args.iov.now 2)
+-- what pages leave of a list without parts are the parts of these pages
+parts_are : (parts before : List Part) (pages : List Page) → parts ≡ before ++ bare_parts pages → before ≡ [] → parts ≡ bare_parts pages
+parts_are parts before pages is empty = is ∙ ap (λ (ps : List Part). ps ++ bare_parts pages) empty
 
 pub put_pages-requires-clause-bare : goal.put_pages-requires-clause-bare
 put_pages-requires-clause-bare c =
     let B : List Part → Type 0 = All IsBare in
-    subst B (sym (parts_are c)) (bare_parts-bare (next_pages c.args.iov.now 2))
+    subst B (sym (parts_are c.take_pages.new.into c.args.parts.now (next_pages c.args.iov.now 2) c.take_pages.ensures.pages c.requires.empty)) (bare_parts-bare (next_pages c.args.iov.now 2))
 
 pub put_pages-requires-clause-fit : goal.put_pages-requires-clause-fit
 put_pages-requires-clause-fit c =
     let I : ℕ → Type 0 = λ i. CanPut (after_take c.args.iov.now 2) i (next_pages c.args.iov.now 2) in
     let G : List Page → Type 0 = λ gs. CanPut (after_take c.args.iov.now 2) 0 gs in
     let V : IovView → Type 0 = λ v. CanPut v 0 (pages_of c.take_pages.new.into) in
-    subst V (sym c.take_pages.ensures.state) (subst G (sym (pages_are c)) (subst I c.requires.first (taken_pages_fit c.args.iov.now 2 c.requires.valid c.requires.whole)))
+    let pages_are : pages_of c.take_pages.new.into ≡ next_pages c.args.iov.now 2 = ap pages_of (parts_are c.take_pages.new.into c.args.parts.now (next_pages c.args.iov.now 2) c.take_pages.ensures.pages c.requires.empty) ∙ pages_of-bare (next_pages c.args.iov.now 2) in
+    subst V (sym c.take_pages.ensures.state) (subst G (sym pages_are) (subst I c.requires.first (taken_pages_fit c.args.iov.now 2 c.requires.valid c.requires.whole)))
 
 pub returns-clause-same : goal.returns-clause-same
 returns-clause-same c =
