@@ -31,7 +31,7 @@ use Rattle.iomap_replay.specs.declared.job.Job.{Job}
 use Rattle.range_core.proofs.CellLemmas.{length-cells_of, length-kinds_from}
 use Rattle.range_core.proofs.FirstTruth.{IsCold, all_cold}
 use Rattle.range_core.specs.Cells.{cells_of, cold_cell, sectors_after}
-use Rattle.range_core.specs.DirectNow.{CanReadNow, after_direct_now, is_clean_home, now_count, now_length, pages_filled, without_mapped_page}
+use Rattle.range_core.specs.DirectNows.{CanReadNow, after_direct_now, is_clean_home, now_count, now_length, pages_filled, without_mapped_page}
 use Rattle.range_core.specs.Events.{with_stamps}
 use Rattle.range_core.specs.Kinds.{is_mapped, kinds_from}
 use Rattle.range_core.specs.OnRun.{on_each, on_run}

@@ -4,7 +4,7 @@ use Rattle.std.specs.Prelude.{unwrap_or}
 use Rattle.iob_base.specs.DeviceBlock.{DeviceBlock}
 use Rattle.space_pool.specs.Pool.{HasSize, PoolView}
 use Rattle.space_pool.specs.Seats.{pool_cell}
-use Rattle.range_core.specs.Attaching.{AttachMade, AttachRefused, Attaches, IsRefusedFor, PreallocateMade, PreallocateRefused, Preallocates, holes_in, pairs_taken, placed_run}
+use Rattle.range_core.specs.Attaches.{AttachMade, AttachRefused, Attaches, IsRefusedFor, PreallocateMade, PreallocateRefused, Preallocates, holes_in, pairs_taken, placed_run}
 use Rattle.range_core.specs.ClaimsView.{ClaimsView}
 use Rattle.range_core.specs.EntryCounts.{one_where}
 use Rattle.range_core.specs.Placing.{awaits_sector, count_in, is_empty, lacks_sector}
@@ -20,8 +20,8 @@ use Rattle.range_core.specs.declared.entry.Event.TheVariants.{Attach, Preallocat
 use Rattle.range_core.specs.declared.entry.Outcome.TheVariants.{Took}
 use Rattle.range_core.specs.declared.fault.EventFault.{EventFault}
 use Rattle.range_core.specs.declared.fault.EventFault.TheVariants.{NoMemory}
-use Rattle.range_core.specs.declared.range.placing.AttachRun.{AttachRun}
-use Rattle.range_core.specs.declared.range.placing.PreallocateRun.{PreallocateRun}
+use Rattle.range_core.specs.declared.range.attach.AttachRun.{AttachRun}
+use Rattle.range_core.specs.declared.range.attach.PreallocateRun.{PreallocateRun}
 use Rattle.range_core.proofs.AfterEntry.{quiet_truth}
 use Rattle.range_core.proofs.PlaceSpace.{PicksSpaceless, awaits-spaceless, lacks-spaceless, unworn_for}
 use Rattle.range_core.proofs.PlaceTruth.{IsTaking, place_truth}

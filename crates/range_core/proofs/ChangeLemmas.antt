@@ -20,7 +20,7 @@ use Rattle.range_core.specs.Spots.{blocks_met, in_run, is_met}
 use Rattle.range_core.specs.StampedChanges.{OnlyStampsChange, is_marked, may_change}
 use Rattle.range_core.specs.Stamps.{done_by, stamps_from}
 use Rattle.range_core.specs.declared.entry.Event.{Event}
-use Rattle.range_core.specs.declared.entry.Event.TheVariants.{TakeSample, Reserve, Unreserve, Attach, Preallocate, Fetch, LendRead, FillBack, Store, StoreZeros, LendWriteback, WrittenBack, DropClean, LendDirect, DirectBack, DirectNow, Wipe, DaxGet, DaxPut, DaxZero}
+use Rattle.range_core.specs.declared.entry.Event.TheVariants.{Sample, Reserve, Unreserve, Attach, Preallocate, Fetch, LendRead, FillBack, Store, StoreZeros, LendWriteback, WrittenBack, DropClean, LendDirect, DirectBack, DirectNow, Wipe, DaxGet, DaxPut, DaxZero}
 use Rattle.range_core.specs.declared.entry.Outcome.{Outcome}
 use Rattle.range_core.specs.declared.entry.Outcome.TheVariants.{Refused, Sampled, Counted, Took, Lending, Finished}
 use Rattle.range_core.proofs.ByteRunLemmas.{met-outside}
@@ -148,7 +148,7 @@ came_back by Write block kind pages done b content none = at (nat_lt b block) re
     at false low = ap (λ t. if t then content else (if has_arrived kind done i then unwrap_or (slice_get pages i) content else content)) low ∙ arrived low (has_arrived kind done i) refl
 
 kept : (size b : ℕ) (content : Content) (event : Event) (outcome : Outcome) → 0 < size → is_marked b (stamps_by size event outcome) ≡ false → content_by size b event outcome content ≡ content
-kept size b content (TakeSample a0 a1) o some none = refl
+kept size b content (Sample a0 a1) o some none = refl
 kept size b content (Reserve a0 a1) o some none = refl
 kept size b content (Unreserve a0 a1) o some none = refl
 kept size b content (Attach a0 a1) o some none = refl

@@ -8,7 +8,7 @@ use Rattle.range_core.specs.Conversions.{OnlyWritesMap, writes_out}
 use Rattle.range_core.specs.Kinds.{is_delalloc, is_mapped}
 use Rattle.range_core.specs.Spots.{in_run, is_met}
 use Rattle.range_core.specs.declared.entry.Event.{Event}
-use Rattle.range_core.specs.declared.entry.Event.TheVariants.{TakeSample, Reserve, Unreserve, Attach, Preallocate, Fetch, LendRead, FillBack, Store, StoreZeros, LendWriteback, WrittenBack, DropClean, LendDirect, DirectBack, DirectNow, Wipe, DaxGet, DaxPut, DaxZero}
+use Rattle.range_core.specs.declared.entry.Event.TheVariants.{Sample, Reserve, Unreserve, Attach, Preallocate, Fetch, LendRead, FillBack, Store, StoreZeros, LendWriteback, WrittenBack, DropClean, LendDirect, DirectBack, DirectNow, Wipe, DaxGet, DaxPut, DaxZero}
 use Rattle.range_core.specs.declared.entry.Outcome.{Outcome}
 use Rattle.range_core.specs.declared.entry.Outcome.TheVariants.{Refused, Sampled, Counted, Took, Lending, Finished}
 use Rattle.range_core.specs.declared.lending.Lender.TheVariants.{Reading}
@@ -46,7 +46,7 @@ went_through true taken s was now = refl
 went_through false taken s was now = never s.kind false was now
 
 maps : (size b : ℕ) (s : BlockState) (event : Event) (outcome : Outcome) → is_mapped s.kind ≡ false → is_mapped (state_by size b event outcome s).kind ≡ true → writes_out size b event outcome ≡ true
-maps size b s (TakeSample a0 a1) o was now = never _ _ was now
+maps size b s (Sample a0 a1) o was now = never _ _ was now
 maps size b s (Reserve seen n) (Refused f) was now = never _ _ was now
 maps size b s (Reserve seen n) (Sampled g) was now = never _ _ (unmapped_if (in_run g.extent.block g.extent.length b) (record s { kind = Delalloc }) s refl was) now
 maps size b s (Reserve seen n) (Counted m) was now = never _ _ was now

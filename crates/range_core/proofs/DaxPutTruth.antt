@@ -14,14 +14,14 @@ use Rattle.space_pool.specs.Claims.{with_more, with_taken}
 use Rattle.space_pool.specs.Pool.{HasSize, PoolView}
 use Rattle.space_pool.specs.Seats.{pool_cell}
 use Rattle.turn_cell.specs.Stakes.{Begins, total}
-use Rattle.range_core.specs.Attaching.{pairs_taken}
+use Rattle.range_core.specs.Attaches.{pairs_taken}
 use Rattle.range_core.specs.BlockStates.{put_through, state_of, taken_by}
 use Rattle.range_core.specs.BlockTruth.{IsTrueAt}
 use Rattle.range_core.specs.ByteRuns.{HasNext, IsByteRun, run_between}
 use Rattle.range_core.specs.Cells.{HasPlace}
 use Rattle.range_core.specs.ClaimsView.{ClaimsView}
 use Rattle.range_core.specs.DaxPuts.{CanPutDax, LeavesPut, PutErr, PutMade, PutsDax, RefusesPut, holes_met, put_bytes, put_placed}
-use Rattle.range_core.specs.DaxReads.{IsThrough}
+use Rattle.range_core.specs.DaxGets.{IsThrough}
 use Rattle.range_core.specs.EntryCounts.{one_where}
 use Rattle.range_core.specs.Events.{with_stamps}
 use Rattle.range_core.specs.Kinds.{is_hole, is_mapped, is_unwritten}
@@ -31,7 +31,7 @@ use Rattle.range_core.specs.PoolTurns.{ReservesAt, TakesAt, UnreservesAt, at_sea
 use Rattle.range_core.specs.RangeTruth.{IsUncached, RangeTruth, is_lent_for_writing, pending}
 use Rattle.range_core.specs.RangeView.{IsSound, RangeView, part_in}
 use Rattle.range_core.specs.Refusals.{dax_put_refusal, stale, worn}
-use Rattle.range_core.specs.Samples.{IsExtentOf, IsKnown}
+use Rattle.range_core.specs.KnownSamples.{IsExtentOf, IsKnown}
 use Rattle.range_core.specs.Space.{ClaimsSpace, SpaceClaims}
 use Rattle.range_core.specs.Spots.{blocks_met, in_run, is_met, overlaid}
 use Rattle.range_core.specs.Stakes.{RangeStake}
@@ -44,7 +44,7 @@ use Rattle.range_core.specs.declared.fault.EventFault.{EventFault}
 use Rattle.range_core.specs.declared.fault.EventFault.TheVariants as why
 use Rattle.range_core.specs.declared.lending.Away.{Away}
 use Rattle.range_core.specs.declared.parts.ByteRun.{ByteRun}
-use Rattle.range_core.specs.declared.range.dax_put.DaxPutBytes.{DaxPutBytes}
+use Rattle.range_core.specs.declared.range.dax_put.DaxPutRun.{DaxPutRun}
 use Rattle.range_core.proofs.AfterEntry.{quiet_tickets, quiet_truth}
 use Rattle.range_core.proofs.AfterRun.{ChangesRun, CountsNext, changed_truth, keeps_claims}
 use Rattle.range_core.proofs.AttachTruth.{Enters}
@@ -60,7 +60,7 @@ use Rattle.range_core.proofs.PlaceLemmas.{number_of, taken-in_run}
 use Rattle.range_core.proofs.PlaceSpace.{All-got}
 use Rattle.range_core.proofs.PlaceTruth.{picked-true, picked-uncached}
 use Rattle.range_core.proofs.PoolLemmas.{kept_for, part_kept}
-use Rattle.range_core.proofs.PromiseLemmas.{unstale}
+use Rattle.range_core.proofs.ReserveLemmas.{unstale}
 use Rattle.range_core.proofs.RefusedLemmas.{refused_is_quiet}
 use Rattle.range_core.proofs.SampleLemmas.{given_later, known_sample, samples_next}
 use Rattle.range_core.proofs.SeatTruth.{refused_entry, seat_truth}
@@ -70,7 +70,7 @@ use Rattle.range_core.proofs.StoreTruth.{if_met, if_unmet}
 use Rattle.range_core.proofs.ThroughTruth.{home_content, written_true}
 use Rattle.iob_base.specs.declared.stamp.Tag.{Tag}
 use Rattle.range_core.specs.OnRun.{count_on}
-use Rattle.range_core.specs.Samples.{WasGiven}
+use Rattle.range_core.specs.KnownSamples.{WasGiven}
 use Rattle.range_core.specs.Stamps.{done_by, stamps_from}
 use Rattle.range_core.specs.declared.entry.Event.{Event}
 use Rattle.range_core.specs.declared.sample.Sample.{Sample}
@@ -322,7 +322,7 @@ can_put_dax opening now history stakes seen from to t bytes given v begins was r
   uncached = t.dax_is_uncached (t.same_run.mode ∙ bytes.dax);
 }
 
-module _ {R F : Type 0} (step : F → ℕ → Done → F → Type 0) (change later : DaxPutBytes R F) (opening now next : RangeView) (history : List Entry) (stakes : List RangeStake) (number : ℕ) (claims : ClaimsView) (made : List Entry) where
+module _ {R F : Type 0} (step : F → ℕ → Done → F → Type 0) (change later : DaxPutRun R F) (opening now next : RangeView) (history : List Entry) (stakes : List RangeStake) (number : ℕ) (claims : ClaimsView) (made : List Entry) where
   -- what is told of an answer, and the truth
   pub put_turn : (answer : Result (Unit {0}) EventFault)
       → IfErr answer (RefusesPut (holes_met now change.from change.to) (dax_put_refusal now change.seen) (λ done. step change.judge (blocks_met now.geometry.block_size change.from change.to) done later.judge) (later.judge ≡ change.judge))

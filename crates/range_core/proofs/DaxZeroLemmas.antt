@@ -14,7 +14,7 @@ use Rattle.range_core.specs.RangeView.{IsSound, LiesAt, RangeView, range_view}
 use Rattle.range_core.specs.Spots.{overlaid}
 use Rattle.range_core.specs.Stamps.{stamps_from}
 use Rattle.range_core.specs.Through.{where_mapped}
-use Rattle.range_core.specs.ZeroStores.{zeros_of}
+use Rattle.range_core.specs.StoreZeros.{zeros_of}
 use Rattle.range_core.specs.declared.cell.Cell.{Cell}
 use Rattle.range_core.specs.declared.parts.ByteRun.{ByteRun}
 use Rattle.range_core.proofs.LayLemmas.{length-overlaid}
@@ -22,7 +22,7 @@ use Rattle.range_core.proofs.OnRunLemmas.{length-on_each}
 use Rattle.range_core.proofs.SoundLemmas.{All-on_each_at, gone-within, sound_next, stamps_from-range}
 use Rattle.range_core.proofs.ThroughLemmas.{either_mapped, place-changed}
 use Rattle.range_core.proofs.ThroughTruth.{KeepsStates, gone_stay, space_stays}
-use Rattle.range_core.proofs.ZeroLemmas.{zero_piece}
+use Rattle.range_core.proofs.StoreZerosLemmas.{zero_piece}
 
 -- zeros over a block's part are the run's zeros there
 pub cleared-through : (run : ByteRun) → IsByteRun run → (k : ℕ) → k < run.blocks → (c : Cell) → cleared_through (part_at run (run.first + k)) c ≡ zeroed_through run k c

@@ -8,14 +8,14 @@ use Rattle.turn_cell.specs.Stakes.{Begins}
 use Rattle.range_core.specs.BlockTruth.{IsTrueAt}
 use Rattle.range_core.specs.ByteRuns.{IsByteRun, after_bytes, run_between}
 use Rattle.range_core.specs.ClaimsView.{ClaimsView}
-use Rattle.range_core.specs.DaxReads.{IsThrough}
+use Rattle.range_core.specs.DaxGets.{IsThrough}
 use Rattle.range_core.specs.DaxZeros.{CanZeroDax, after_dax_zero, dax_zero_entry, zeroed_through}
 use Rattle.range_core.specs.RangeTruth.{IsUncached, RangeTruth}
 use Rattle.range_core.specs.RangeView.{LiesAt, RangeView}
-use Rattle.range_core.specs.Samples.{WasGiven}
+use Rattle.range_core.specs.KnownSamples.{WasGiven}
 use Rattle.range_core.specs.Spots.{blocks_met, is_met, overlaid}
 use Rattle.range_core.specs.Stakes.{RangeStake}
-use Rattle.range_core.specs.ZeroStores.{zeros_of}
+use Rattle.range_core.specs.StoreZeros.{zeros_of}
 use Rattle.range_core.specs.declared.entry.Entry.{Entry}
 use Rattle.range_core.specs.declared.entry.Event.TheVariants.{DaxZero}
 use Rattle.range_core.specs.declared.fault.EventFault.{EventFault}
@@ -29,7 +29,7 @@ use Rattle.range_core.proofs.LayLemmas.{length-overlaid}
 use Rattle.range_core.proofs.SampleLemmas.{given_later, known_sample}
 use Rattle.range_core.proofs.StoreTruth.{if_met, if_unmet}
 use Rattle.range_core.proofs.ThroughTruth.{state-stays, through_truth, where_mapped_true}
-use Rattle.range_core.proofs.ZeroLemmas.{zeros_over}
+use Rattle.range_core.proofs.StoreZerosLemmas.{zeros_over}
 use Rattle.range_core.proofs.FoundLemmas.{bare-found, if_any}
 use Rattle.range_core.proofs.StakeTruth.{Works}
 

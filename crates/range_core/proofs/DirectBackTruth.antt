@@ -41,11 +41,11 @@ use Rattle.range_core.specs.declared.entry.Outcome.TheVariants.{Finished}
 use Rattle.range_core.specs.declared.lending.Held.{Held}
 use Rattle.range_core.specs.declared.lending.Lender.TheVariants.{Direct}
 use Rattle.range_core.specs.declared.lending.Lent.{Lent}
-use Rattle.range_core.specs.declared.range.direct.EndDirect.{EndDirect}
+use Rattle.range_core.specs.declared.range.lend_direct.DirectBackRun.{DirectBackRun}
 use Rattle.range_core.proofs.AfterEntry.{quiet_tickets}
 use Rattle.range_core.proofs.AfterRun.{ChangesRun, CountsNext, changed_truth, in_run-true}
 use Rattle.range_core.proofs.DirectBackLemmas.{IsBackRun, back-kind, back_out, back_placed, back_run, back_space}
-use Rattle.range_core.proofs.DirectLendLemmas.{unnamed_true}
+use Rattle.range_core.proofs.LendDirectLemmas.{unnamed_true}
 use Rattle.range_core.proofs.FirstTruth.{All-there}
 use Rattle.range_core.proofs.KindRuns.{kinds_of}
 use Rattle.range_core.proofs.KindSteps.{mapped-after, unwritten-after}
@@ -359,7 +359,7 @@ pub record DirectReturned (now next : RangeView) (claims left : ClaimsView) (by 
   pub bare : All IsBare pages
   pub kept : KeepsPages op (pages_held claims.held) (pages_of pages)
 
-module _ (opening now : RangeView) (history : List Entry) (stakes : List RangeStake) (number : ℕ) (claims : ClaimsView) (made : List Entry) (change : EndDirect) (back : Lent)
+module _ (opening now : RangeView) (history : List Entry) (stakes : List RangeStake) (number : ℕ) (claims : ClaimsView) (made : List Entry) (change : DirectBackRun) (back : Lent)
     (t : RangeTruth opening now history stakes) (here : Works stakes number claims made) (ready : ReadyToReturn change opening claims) (given : change.back ≡ Some back) where
   pub may_return : MayComeBack opening claims (Direct change.by change.op) change.op back change.done
   may_return =
@@ -376,7 +376,7 @@ module _ (opening now : RangeView) (history : List Entry) (stakes : List RangeSt
   back_is : back_in change ≡ back
   back_is = ap (λ o. back_in (record change { back = o })) given
 
-  pub turned_back : (next : RangeView) (left : ClaimsView) (later : EndDirect) (pages : List Part) → later ≡ record change { back = None } → DirectReturned now next claims left change.by change.op back change.done pages
+  pub turned_back : (next : RangeView) (left : ClaimsView) (later : DirectBackRun) (pages : List Part) → later ≡ record change { back = None } → DirectReturned now next claims left change.by change.op back change.done pages
       → Advanced RangeTruth (λ opening history entry. ReturnedDirectly change later opening history now next claims left pages entry) opening next history stakes number left made
   turned_back next left later pages used r =
       let kind : Kind = kind_held claims.held in

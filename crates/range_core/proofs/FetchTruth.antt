@@ -31,7 +31,7 @@ use Rattle.range_core.proofs.AfterEntry.{quiet_truth}
 use Rattle.range_core.proofs.ByteRunLemmas.{gathered-same, met-inside, met-outside}
 use Rattle.range_core.proofs.EachLemmas.{in_run-there, is_there}
 use Rattle.range_core.proofs.FetchLemmas.{cached-block}
-use Rattle.range_core.proofs.FillLemmas.{filled_true}
+use Rattle.range_core.proofs.FetchFills.{filled_true}
 use Rattle.range_core.proofs.PagingLemmas.{filled-whole, filled_keeps}
 use Rattle.range_core.proofs.RefusedLemmas.{refused_is_quiet}
 use Rattle.range_core.proofs.StopLemmas.{neither, none_stops, run_of-at, where_true-not}

@@ -7,7 +7,7 @@ use Rattle.iob_base.specs.declared.stamp.Op.{Op}
 use Rattle.iob_base.specs.declared.stamp.Op.TheVariants.{Read, Write}
 use Rattle.io_model.specs.Kinds.{is_kind, kind_after}
 use Rattle.io_model.specs.declared.file.Kind.{Kind}
-use Rattle.range_core.specs.Attaching.{pairs_taken}
+use Rattle.range_core.specs.Attaches.{pairs_taken}
 use Rattle.range_core.specs.BlockStates.{BlockState, state_of, taken_by}
 use Rattle.range_core.specs.Happened.{is_bare, is_lendable, is_out, is_same_lender, is_same_op, is_settled, keeps_page, took_just, is_cold_in}
 use Rattle.range_core.specs.Kinds.{has_space, is_mapped}

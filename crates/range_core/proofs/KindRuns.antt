@@ -10,7 +10,7 @@ use Rattle.range_core.specs.Runs.{run_from, run_length}
 use Rattle.range_core.specs.declared.cell.Cell.{Cell}
 use Rattle.range_core.specs.declared.entry.Entry.{Entry}
 use Rattle.range_core.specs.declared.entry.Event.{Event}
-use Rattle.range_core.specs.declared.entry.Event.TheVariants.{TakeSample}
+use Rattle.range_core.specs.declared.entry.Event.TheVariants as events
 use Rattle.range_core.specs.declared.sample.Sample.{Sample}
 use Rattle.range_core.specs.declared.entry.Outcome.{Outcome}
 use Rattle.range_core.specs.declared.entry.Outcome.TheVariants.{Refused, Sampled, Counted, Took, Lending, Finished}
@@ -90,8 +90,8 @@ first_kind-drop (x ∷ cells) zero c e = let is : x ≡ c = cc in ap (λ (y : Ce
 first_kind-drop (x ∷ cells) (suc i) c e = first_kind-drop cells i c e
 
 -- the present sample is one of the range
-pub present_sample : (now : RangeView) (b most : ℕ) (sample : Sample) → now.first ≤ b → sample ≡ sample_at now b most → IsOfRangeNow now (TakeSample b most) (Sampled sample)
+pub present_sample : (now : RangeView) (b most : ℕ) (sample : Sample) → now.first ≤ b → sample ≡ sample_at now b most → IsOfRangeNow now (events.Sample b most) (Sampled sample)
 present_sample now b most sample low e =
-    let S : Sample → Type 0 = λ s. IsOfRangeNow now (TakeSample b most) (Sampled s) in
+    let S : Sample → Type 0 = λ s. IsOfRangeNow now (events.Sample b most) (Sampled s) in
     let le : now.cookie ≤ now.cookie = omega arith in
     subst S (sym e) (record { past = le; begins = low; present = λ _. refl })

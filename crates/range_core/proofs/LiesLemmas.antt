@@ -6,7 +6,7 @@ use Rattle.iob_base.specs.declared.TheConstants.{STRIPE}
 use Rattle.iob_base.specs.declared.sector.Page.{Page}
 use Rattle.io_model.specs.Kinds.{is_kind, kind_after}
 use Rattle.range_core.specs.Lends.{lent_of, parts_of}
-use Rattle.range_core.specs.Looks.{MayLook, SampleLies}
+use Rattle.range_core.specs.Samples.{MaySample, SampleLies}
 use Rattle.range_core.specs.Lookups.{extent_at, sample_at}
 use Rattle.range_core.specs.RangeTruth.{IsSameRun}
 use Rattle.range_core.specs.RangeView.{LiesAt, RangeView, cells_from}
@@ -66,7 +66,7 @@ pub extent_within : (r : RangeView) (b most : ℕ) → ((extent_at r b most).len
 extent_within r b most = let within = run_length-within (cells_from r b) (min most (STRIPE - b % STRIPE)) in (within.0, omega (arith, within.1))
 
 -- a sample that was looked up is of blocks of the range as it was opened
-pub sample_lies : (opening now : RangeView) (b most : ℕ) (sample : Sample) → IsSameRun opening now → MayLook opening b most → sample ≡ sample_at now b most → SampleLies opening sample
+pub sample_lies : (opening now : RangeView) (b most : ℕ) (sample : Sample) → IsSameRun opening now → MaySample opening b most → sample ≡ sample_at now b most → SampleLies opening sample
 sample_lies opening now b most sample same may is =
     let f = same.first in
     let m = same.blocks in

@@ -6,8 +6,8 @@ use Rattle.std.proofs.lemmas.List.Elements.{All-tail}
 use Rattle.iob_base.specs.DeviceBlock.{DeviceBlock}
 use Rattle.iob_base.specs.Parting.{IsBare, bare_part, bare_parts, pages_of}
 use Rattle.iob_base.specs.declared.part.Part.{Part}
-use Rattle.range_core.specs.DirectLends.{part_zeroed, zeroed}
-use Rattle.range_core.specs.Writebacks.{page_copy, part_copy}
+use Rattle.range_core.specs.LendDirects.{part_zeroed, zeroed}
+use Rattle.range_core.specs.LendWritebacks.{page_copy, part_copy}
 use Rattle.range_core.specs.declared.cell.Cell.{Cell}
 
 -- the pages of snapshots

@@ -11,7 +11,7 @@ use Rattle.space_pool.specs.Pool.{HasSize}
 use Rattle.space_pool.specs.declared.entry.PoolEntry.{PoolEntry}
 use Rattle.turn_cell.specs.Stakes.{total}
 use Rattle.turn_cell.specs.Views.{SeatView}
-use Rattle.range_core.specs.Attaching.{pairs_taken, placed_run}
+use Rattle.range_core.specs.Attaches.{pairs_taken, placed_run}
 use Rattle.range_core.specs.BlockContents.{content_after}
 use Rattle.range_core.specs.BlockStates.{BlockState, state_after, state_of, taken_by, with_space}
 use Rattle.range_core.specs.BlockTruth.{IsTrueAt}

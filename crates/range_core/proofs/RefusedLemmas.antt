@@ -1,10 +1,10 @@
 -- Events that were refused.
 use Rattle.std.proofs.Common.{refl}
 use Rattle.range_core.specs.Quiet.{RefusedIsQuiet}
-use Rattle.range_core.specs.declared.entry.Event.TheVariants.{TakeSample, Reserve, Unreserve, Attach, Preallocate, Fetch, LendRead, FillBack, Store, StoreZeros, LendWriteback, WrittenBack, DropClean, LendDirect, DirectBack, DirectNow, Wipe, DaxGet, DaxPut, DaxZero}
+use Rattle.range_core.specs.declared.entry.Event.TheVariants.{Sample, Reserve, Unreserve, Attach, Preallocate, Fetch, LendRead, FillBack, Store, StoreZeros, LendWriteback, WrittenBack, DropClean, LendDirect, DirectBack, DirectNow, Wipe, DaxGet, DaxPut, DaxZero}
 
 pub refused_is_quiet : RefusedIsQuiet
-refused_is_quiet size caller (TakeSample a b) fault = record { content = λ b x. refl; state = λ b s. refl; failed = refl; lent = refl; changed = refl; stamps = refl; found = λ b s. refl }
+refused_is_quiet size caller (Sample a b) fault = record { content = λ b x. refl; state = λ b s. refl; failed = refl; lent = refl; changed = refl; stamps = refl; found = λ b s. refl }
 refused_is_quiet size caller (Reserve a b) fault = record { content = λ b x. refl; state = λ b s. refl; failed = refl; lent = refl; changed = refl; stamps = refl; found = λ b s. refl }
 refused_is_quiet size caller (Unreserve a b) fault = record { content = λ b x. refl; state = λ b s. refl; failed = refl; lent = refl; changed = refl; stamps = refl; found = λ b s. refl }
 refused_is_quiet size caller (Attach a b) fault = record { content = λ b x. refl; state = λ b s. refl; failed = refl; lent = refl; changed = refl; stamps = refl; found = λ b s. refl }

@@ -20,10 +20,10 @@ use Rattle.range_core.specs.OnRun.{on_each}
 use Rattle.range_core.specs.PoolTurns.{LeavesAlone, ReservesSomeAt, place_of}
 use Rattle.range_core.specs.RangeTruth.{RangeTruth, pending}
 use Rattle.range_core.specs.RangeView.{RangeView, part_in}
-use Rattle.range_core.specs.Reserving.{AsksHoles, RefusesReserve, Reserves, promised_cell, reserve_fault, reserve_outcome, reserved_run, reserved_sample}
+use Rattle.range_core.specs.Reserves.{AsksHoles, RefusesReserve, Reserves, promised_cell, reserve_fault, reserve_outcome, reserved_run, reserved_sample}
 use Rattle.range_core.specs.Refusals.{reserve_refusal, stale, worn}
 use Rattle.range_core.specs.Runs.{run_from, run_length}
-use Rattle.range_core.specs.Samples.{IsExtentOf, IsKnown}
+use Rattle.range_core.specs.KnownSamples.{IsExtentOf, IsKnown}
 use Rattle.range_core.specs.Stakes.{RangeStake}
 use Rattle.range_core.specs.declared.cell.Cell.{Cell}
 use Rattle.range_core.specs.declared.entry.Entry.{Entry}
@@ -37,14 +37,14 @@ use Rattle.range_core.proofs.FirstTruth.{total-few}
 use Rattle.range_core.proofs.HomeLemmas.{home_content, home_of, home_true, pending-few, unnamed}
 use Rattle.range_core.proofs.KindRuns.{first_kind-drop}
 use Rattle.range_core.proofs.OnRunLemmas.{length-on_each, on_each-in}
-use Rattle.range_core.proofs.PromiseLemmas.{AreHoles, sampled_holes, space_promised, unstale}
+use Rattle.range_core.proofs.ReserveLemmas.{AreHoles, sampled_holes, space_promised, unstale}
 use Rattle.range_core.proofs.SampleLemmas.{samples_next, slice_get-drop}
 use Rattle.range_core.proofs.SeatTruth.{refused_truth}
 use Rattle.range_core.proofs.StopLemmas.{neither, unworn}
 use Rattle.range_core.proofs.FoundLemmas.{found_run}
 use Rattle.range_core.proofs.PoolLemmas.{part_kept}
 use Rattle.range_core.proofs.StakeTruth.{Works}
-use Rattle.range_core.specs.Looks.{SampleLies}
+use Rattle.range_core.specs.Samples.{SampleLies}
 
 -- where a block has a page that passes no test, it is nothing
 none_and : {A : Type 0} (P Q : A → Type 0) (o : Option A) → ((x : A) → P x → Q x) → IsSomeAnd o P → IsSomeAnd o Q

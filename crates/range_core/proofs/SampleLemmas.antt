@@ -11,7 +11,7 @@ use Rattle.range_core.specs.Lookups.{GivesPresent, IsOfRangeNow, extent_at, firs
 use Rattle.range_core.specs.RangeTruth.{RangeTruth}
 use Rattle.range_core.specs.RangeView.{RangeView, cells_from}
 use Rattle.range_core.specs.Runs.{run_from, run_length}
-use Rattle.range_core.specs.Samples.{IsExtentOf, IsKnown, WasGiven}
+use Rattle.range_core.specs.KnownSamples.{IsExtentOf, IsKnown, WasGiven}
 use Rattle.range_core.specs.Stakes.{RangeStake}
 use Rattle.range_core.specs.declared.cell.Cell.{Cell}
 use Rattle.range_core.specs.declared.entry.Entry.{Entry}

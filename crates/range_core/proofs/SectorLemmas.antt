@@ -10,7 +10,7 @@ use Rattle.range_core.specs.Kinds.{has_space, is_delalloc, is_hole, is_mapped, w
 use Rattle.range_core.specs.Lasting.{KeepsSector, SectorsLast, is_unwiped, wipes}
 use Rattle.range_core.specs.Spots.{in_run, is_met}
 use Rattle.range_core.specs.declared.entry.Event.{Event}
-use Rattle.range_core.specs.declared.entry.Event.TheVariants.{TakeSample, Reserve, Unreserve, Attach, Preallocate, Fetch, LendRead, FillBack, Store, StoreZeros, LendWriteback, WrittenBack, DropClean, LendDirect, DirectBack, DirectNow, Wipe, DaxGet, DaxPut, DaxZero}
+use Rattle.range_core.specs.declared.entry.Event.TheVariants.{Sample, Reserve, Unreserve, Attach, Preallocate, Fetch, LendRead, FillBack, Store, StoreZeros, LendWriteback, WrittenBack, DropClean, LendDirect, DirectBack, DirectNow, Wipe, DaxGet, DaxPut, DaxZero}
 use Rattle.range_core.specs.declared.entry.Outcome.{Outcome}
 use Rattle.range_core.specs.declared.entry.Outcome.TheVariants.{Refused, Sampled, Counted, Took, Lending, Finished}
 use Rattle.range_core.specs.declared.lending.Lender.TheVariants.{Reading}
@@ -78,7 +78,7 @@ put_keeps t None s space found = written_keeps s.kind space
 put_keeps t (Some d) s space found = let p = and_parts t (is_hole s.kind) found in hole_space s.kind p.1 space
 
 keeps : (size b : ℕ) (s : BlockState) (event : Event) (outcome : Outcome) → found_by size b event outcome s ≡ true → wipes b event outcome ≡ false → has_space s.kind ≡ true → KeepsSector s.kind (state_by size b event outcome s).kind
-keeps size b s (TakeSample a0 a1) o found kept space = stays s.kind
+keeps size b s (Sample a0 a1) o found kept space = stays s.kind
 keeps size b s (Reserve seen n) (Refused f) found kept space = stays s.kind
 keeps size b s (Reserve seen n) (Sampled g) found kept space = hole_keeps (in_run g.extent.block g.extent.length b) (record s { kind = Delalloc }) s found space
 keeps size b s (Reserve seen n) (Counted m) found kept space = absurd (cc)

@@ -16,7 +16,7 @@ use Rattle.range_core.specs.Outcomes.{finished}
 use Rattle.range_core.specs.RangeTruth.{RangeTruth}
 use Rattle.range_core.specs.RangeView.{RangeView}
 use Rattle.range_core.specs.Refusals.{away_with_page, cold_in_part, covers_in_part, first_that_stops, is_cold, met, pageless_at, run_of, stale, store_refusal, ◌orElse◌}
-use Rattle.range_core.specs.Samples.{IsExtentOf, IsKnown}
+use Rattle.range_core.specs.KnownSamples.{IsExtentOf, IsKnown}
 use Rattle.range_core.specs.Spots.{is_met, overlaid}
 use Rattle.range_core.specs.Stakes.{RangeStake}
 use Rattle.range_core.specs.Stores.{LieInExtent, after_store, stored}

@@ -8,8 +8,8 @@ use Rattle.io_model.specs.Kinds.{device_number}
 use Rattle.io_model.specs.declared.file.Kind.{Kind}
 use Rattle.io_model.specs.declared.file.Kind.TheVariants.{Hole, Delalloc, Unwritten, Mapped}
 use Rattle.range_core.specs.Cells.{HasPlace, HasSector}
-use Rattle.range_core.specs.DaxReads.{AreHomeIn}
-use Rattle.range_core.specs.DirectNow.{IsReady}
+use Rattle.range_core.specs.DaxGets.{AreHomeIn}
+use Rattle.range_core.specs.DirectNows.{IsReady}
 use Rattle.range_core.specs.Kinds.{is_mapped}
 use Rattle.range_core.specs.OnRun.{on_each}
 use Rattle.range_core.specs.Through.{on_sector, through, where_mapped}

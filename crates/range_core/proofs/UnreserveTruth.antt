@@ -10,7 +10,7 @@ use Rattle.range_core.specs.OnRun.{on_each}
 use Rattle.range_core.specs.Placing.{count_in, is_unused}
 use Rattle.range_core.specs.RangeTruth.{IsUncached, RangeTruth, pending}
 use Rattle.range_core.specs.RangeView.{LiesAt, RangeView, part_in}
-use Rattle.range_core.specs.Reserving.{released, unreserved_run}
+use Rattle.range_core.specs.Reserves.{released, unreserved_run}
 use Rattle.range_core.specs.Stakes.{RangeStake}
 use Rattle.range_core.specs.declared.cell.Cell.{Cell}
 use Rattle.range_core.specs.declared.entry.Entry.{Entry}
@@ -23,7 +23,7 @@ use Rattle.range_core.proofs.CountLemmas.{count_on-total, on_each-unpicked, tota
 use Rattle.range_core.proofs.FirstTruth.{total-zero}
 use Rattle.range_core.proofs.KindRuns.{kinds_of}
 use Rattle.range_core.proofs.OnRunLemmas.{All-on_each}
-use Rattle.range_core.proofs.ReleaseLemmas.{released-other, released-pending, released-state, released-true, released-uncached, space_released}
+use Rattle.range_core.proofs.UnreserveLemmas.{released-other, released-pending, released-state, released-true, released-uncached, space_released}
 use Rattle.range_core.proofs.SampleLemmas.{samples_next}
 use Rattle.range_core.proofs.StakeTruth.{Works}
 

@@ -21,7 +21,7 @@ use Rattle.range_core.specs.Placing.{is_promised, is_used}
 use Rattle.range_core.specs.RangeView.{RangeView}
 use Rattle.range_core.specs.Refusals.{◌orElse◌, away, away_at, first_that_stops, run_of, some_block, where_true, wipe_refusal, worn}
 use Rattle.range_core.specs.Space.{ClaimsSpace, SpaceClaims, number_weight, promised, weigh_number}
-use Rattle.range_core.specs.Wiping.{sectors_of, used_in, wiped}
+use Rattle.range_core.specs.Wipes.{sectors_of, used_in, wiped}
 use Rattle.range_core.specs.declared.cell.Cell.{Cell}
 use Rattle.range_core.specs.declared.fault.EventFault.TheVariants.{Worn}
 use Rattle.range_core.specs.declared.lending.Away.{Away}

@@ -23,7 +23,7 @@ use Rattle.range_core.specs.RangeView.{IsSound, LiesAt, RangeView, part_in}
 use Rattle.range_core.specs.Refusals.{away, first_that_stops, run_of, some_block, wipe_refusal, worn}
 use Rattle.range_core.specs.Space.{ClaimsSpace}
 use Rattle.range_core.specs.Stakes.{RangeStake}
-use Rattle.range_core.specs.Wiping.{RefusesWipe, Wipes, promised_in, sectors_in, used_in, wipe_outcome, wiped, wiped_run}
+use Rattle.range_core.specs.Wipes.{RefusesWipe, Wipes, promised_in, sectors_in, used_in, wipe_outcome, wiped, wiped_run}
 use Rattle.range_core.specs.declared.cell.Cell.{Cell}
 use Rattle.range_core.specs.declared.entry.Entry.{Entry}
 use Rattle.range_core.specs.declared.entry.Event.TheVariants.{Wipe}

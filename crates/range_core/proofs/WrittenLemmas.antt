@@ -11,7 +11,7 @@ use Rattle.range_core.specs.Lasting.{MappedWasWritten, is_written, wipes, writes
 use Rattle.range_core.specs.Spots.{in_run, is_met}
 use Rattle.range_core.specs.declared.entry.Entry.{Entry}
 use Rattle.range_core.specs.declared.entry.Event.{Event}
-use Rattle.range_core.specs.declared.entry.Event.TheVariants.{TakeSample, Reserve, Unreserve, Attach, Preallocate, Fetch, LendRead, FillBack, Store, StoreZeros, LendWriteback, WrittenBack, DropClean, LendDirect, DirectBack, DirectNow, Wipe, DaxGet, DaxPut, DaxZero}
+use Rattle.range_core.specs.declared.entry.Event.TheVariants.{Sample, Reserve, Unreserve, Attach, Preallocate, Fetch, LendRead, FillBack, Store, StoreZeros, LendWriteback, WrittenBack, DropClean, LendDirect, DirectBack, DirectNow, Wipe, DaxGet, DaxPut, DaxZero}
 use Rattle.range_core.specs.declared.entry.Outcome.{Outcome}
 use Rattle.range_core.specs.declared.entry.Outcome.TheVariants.{Refused, Sampled, Counted, Took, Lending, Finished}
 use Rattle.range_core.specs.declared.lending.Away.{Away}
@@ -118,7 +118,7 @@ wiped false before s was found now = was now
 
 writes : (size b : ℕ) (s : BlockState) (event : Event) (outcome : Outcome) (before : Bool) → found_by size b event outcome s ≡ true → (Holds s → before ≡ true) → Holds (state_by size b event outcome s)
     → (not (wipes b event outcome) && (writes_to size b event outcome || before)) ≡ true
-writes size b s (TakeSample a0 a1) o before found was now = was now
+writes size b s (Sample a0 a1) o before found was now = was now
 writes size b s (Reserve seen n) (Refused f) before found was now = was now
 writes size b s (Reserve seen n) (Sampled g) before found was now = was (either (in_run g.extent.block g.extent.length b) (record s { kind = Delalloc }) s (unmapped_was s) now)
 writes size b s (Reserve seen n) (Counted m) before found was now = absurd (cc)

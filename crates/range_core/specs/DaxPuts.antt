@@ -9,11 +9,11 @@ use Rattle.space_pool.specs.Pool.{HasSize, PoolView, no_space}
 use Rattle.space_pool.specs.Seats.{pool_cell}
 use Rattle.space_pool.specs.declared.entry.PoolEntry.{PoolEntry}
 use Rattle.turn_cell.specs.Views.{SeatView}
-use Rattle.range_core.specs.Attaching.{pairs_taken}
+use Rattle.range_core.specs.Attaches.{pairs_taken}
 use Rattle.range_core.specs.ByteRuns.{HasNext, run_between}
 use Rattle.range_core.specs.ClaimsView.{ClaimsView}
 use Rattle.range_core.specs.DaxPools.{GivesUp}
-use Rattle.range_core.specs.DaxReads.{IsThrough}
+use Rattle.range_core.specs.DaxGets.{IsThrough}
 use Rattle.range_core.specs.EntryCounts.{one_where}
 use Rattle.range_core.specs.Events.{with_stamps}
 use Rattle.range_core.specs.Kinds.{is_mapped}
@@ -23,7 +23,7 @@ use Rattle.range_core.specs.PoolTurns.{PoolPlace, ReservesAt, TakesAt, TurnsFor,
 use Rattle.range_core.specs.RangeTruth.{IsUncached}
 use Rattle.range_core.specs.RangeView.{RangeView}
 use Rattle.range_core.specs.Refusals.{dax_put_refusal}
-use Rattle.range_core.specs.Samples.{IsKnown, WasGiven}
+use Rattle.range_core.specs.KnownSamples.{IsKnown, WasGiven}
 use Rattle.range_core.specs.Space.{SpaceClaims}
 use Rattle.range_core.specs.Spots.{blocks_met, overlaid}
 use Rattle.range_core.specs.Stamps.{done_by, stamps_from}
@@ -36,7 +36,7 @@ use Rattle.range_core.specs.declared.entry.Outcome.TheVariants.{Refused, Took}
 use Rattle.range_core.specs.declared.fault.EventFault.{EventFault}
 use Rattle.range_core.specs.declared.fault.EventFault.TheVariants as fault
 use Rattle.range_core.specs.declared.parts.ByteRun.{ByteRun}
-use Rattle.range_core.specs.declared.range.dax_put.DaxPutBytes.{DaxPutBytes}
+use Rattle.range_core.specs.declared.range.dax_put.DaxPutRun.{DaxPutRun}
 use Rattle.range_core.specs.declared.sample.Sample.{Sample}
 
 -- What is asked of bytes written into sectors: an extent of a file that skips the page cache, so many bytes of an iov, a sample of the range, and blocks of which nothing is cached or lent
@@ -97,11 +97,11 @@ abbrev pub Passes : (Done → Type 0) → Type 0
 Passes told = (done : Done) × (done.failed ≡ false) × told done
 
 -- the bytes that such a turn has of its iov
-abbrev pub put_bytes : {R F : Type 0} → DaxPutBytes R F → List ℕ
+abbrev pub put_bytes : {R F : Type 0} → DaxPutRun R F → List ℕ
 put_bytes change = next_bytes change.iov.now (change.to - change.from)
 
 -- The turn may begin: a judgement may be asked for, and the event's conditions hold of the range as it was opened, of its pool, and of what the seat has seen
-pub record MayPutDax {R F : Type 0} (may : F → ℕ → Type 0) (change : DaxPutBytes R F) (opening : RangeView) (history : List Entry) : Type 0 where
+pub record MayPutDax {R F : Type 0} (may : F → ℕ → Type 0) (change : DaxPutRun R F) (opening : RangeView) (history : List Entry) : Type 0 where
   pub judge : (m : ℕ) → 0 < m → may change.judge m
   pub bytes : IsThrough opening change.seen change.from change.to
   pub room : HasNext change.iov.now (change.to - change.from)
@@ -109,23 +109,23 @@ pub record MayPutDax {R F : Type 0} (may : F → ℕ → Type 0) (change : DaxPu
   pub pool : opening.seat.cell ≡ (pool_cell change.space.now).cell
 
 -- It came about, and this is its entry
-pub record PutMade {R F : Type 0} (change : DaxPutBytes R F) (before after : RangeView) (claims : ClaimsView) (entry : Entry) : Type 0 where
+pub record PutMade {R F : Type 0} (change : DaxPutRun R F) (before after : RangeView) (claims : ClaimsView) (entry : Entry) : Type 0 where
   pub made : dax_put_refusal before change.seen ≡ None
   pub puts : PutsDax (pool_cell change.space.now).opening before change.by change.seen change.from change.to (put_bytes change) after
   pub entry_is : entry ≡ record { caller = claims.caller; event = DaxPut change.by change.seen change.from change.to (put_bytes change); outcome = Took (pairs_taken is_empty before (change.from / before.geometry.block_size) (blocks_met before.geometry.block_size change.from change.to) puts.sectors) }
 
 -- It was refused
-pub record PutRefused {R F : Type 0} (step : F → ℕ → Done → F → Type 0) (change later : DaxPutBytes R F) (before after : RangeView) (claims : ClaimsView) (entry : Entry) (e : EventFault) : Type 0 where
+pub record PutRefused {R F : Type 0} (step : F → ℕ → Done → F → Type 0) (change later : DaxPutRun R F) (before after : RangeView) (claims : ClaimsView) (entry : Entry) (e : EventFault) : Type 0 where
   pub refused : RefusesPut (holes_met before change.from change.to) (dax_put_refusal before change.seen) (λ done. step change.judge (blocks_met before.geometry.block_size change.from change.to) done later.judge) (later.judge ≡ change.judge) e
   pub leaves : LeavesPut (pool_cell change.space.now).opening (holes_met before change.from change.to) e before after
   pub nothing : later.iov.now ≡ change.iov.now
   pub entry_is : entry ≡ record { caller = claims.caller; event = DaxPut change.by change.seen change.from change.to (put_bytes change); outcome = Refused e }
 
-abbrev pub PutErr : {R F : Type 0} → (F → ℕ → Done → F → Type 0) → DaxPutBytes R F → DaxPutBytes R F → RangeView → RangeView → ClaimsView → Entry → Result (Unit {0}) EventFault → Type 0
+abbrev pub PutErr : {R F : Type 0} → (F → ℕ → Done → F → Type 0) → DaxPutRun R F → DaxPutRun R F → RangeView → RangeView → ClaimsView → Entry → Result (Unit {0}) EventFault → Type 0
 PutErr step change later before after claims entry answer = IfErr answer (PutRefused step change later before after claims entry)
 
 -- The turn wrote the iov's bytes into the sectors of the blocks met after one judgement of them, or was refused
-pub record PutDax {R F : Type 0} (step : F → ℕ → Done → F → Type 0) (change : DaxPutBytes R F) (before : RangeView) (claims : ClaimsView) (later : DaxPutBytes R F) (after : RangeView) (left : ClaimsView) (answer : Result (Unit {0}) EventFault) (entry : Entry) : Type 0 where
+pub record PutDax {R F : Type 0} (step : F → ℕ → Done → F → Type 0) (change : DaxPutRun R F) (before : RangeView) (claims : ClaimsView) (later : DaxPutRun R F) (after : RangeView) (left : ClaimsView) (answer : Result (Unit {0}) EventFault) (entry : Entry) : Type 0 where
   pub rt : later.rt ≡ change.rt
   pub space : later.space ≡ change.space
   pub by : later.by ≡ change.by

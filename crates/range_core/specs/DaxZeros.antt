@@ -6,24 +6,24 @@ use Rattle.io_model.specs.Contents.{zeros}
 use Rattle.io_model.specs.Effects.{overlay}
 use Rattle.range_core.specs.ByteRuns.{after_bytes, run_between}
 use Rattle.range_core.specs.ClaimsView.{ClaimsView}
-use Rattle.range_core.specs.DaxReads.{IsThrough}
-use Rattle.range_core.specs.DirectNow.{PassesNow, RefusesNow}
+use Rattle.range_core.specs.DaxGets.{IsThrough}
+use Rattle.range_core.specs.DirectNows.{PassesNow, RefusesNow}
 use Rattle.range_core.specs.Kinds.{is_mapped}
 use Rattle.range_core.specs.Outcomes.{finished}
 use Rattle.range_core.specs.RangeTruth.{IsUncached}
 use Rattle.range_core.specs.RangeView.{RangeView}
 use Rattle.range_core.specs.Refusals.{stale}
-use Rattle.range_core.specs.Samples.{IsKnown, WasGiven}
+use Rattle.range_core.specs.KnownSamples.{IsKnown, WasGiven}
 use Rattle.range_core.specs.Spots.{blocks_met, overlaid}
 use Rattle.range_core.specs.Through.{where_mapped}
-use Rattle.range_core.specs.ZeroStores.{zeros_of}
+use Rattle.range_core.specs.StoreZeros.{zeros_of}
 use Rattle.range_core.specs.declared.cell.Cell.{Cell}
 use Rattle.range_core.specs.declared.entry.Entry.{Entry}
 use Rattle.range_core.specs.declared.entry.Event.TheVariants.{DaxZero}
 use Rattle.range_core.specs.declared.fault.EventFault.{EventFault}
 use Rattle.range_core.specs.declared.parts.BlockPart.{BlockPart}
 use Rattle.range_core.specs.declared.parts.ByteRun.{ByteRun}
-use Rattle.range_core.specs.declared.range.dax_zero.DaxZeroBytes.{DaxZeroBytes}
+use Rattle.range_core.specs.declared.range.dax_zero.DaxZeroRun.{DaxZeroRun}
 use Rattle.range_core.specs.declared.sample.Sample.{Sample}
 
 -- What is asked of zeros laid over sectors: bytes in an extent of a file that skips the page cache, a sample of the range, and blocks of which nothing is cached or lent
@@ -45,7 +45,7 @@ abbrev pub after_dax_zero : RangeView → Tag → ℕ → ℕ → RangeView
 after_dax_zero r by from to = let run = run_between r.geometry.block_size from to in after_bytes (zeroed_through run) r by run
 
 -- The turn may begin: a judgement may be asked for, and the event's conditions hold of the range as it was opened and of what the seat has seen
-pub record MayZeroDax {F : Type 0} (may : F → ℕ → Type 0) (change : DaxZeroBytes F) (opening : RangeView) (history : List Entry) : Type 0 where
+pub record MayZeroDax {F : Type 0} (may : F → ℕ → Type 0) (change : DaxZeroRun F) (opening : RangeView) (history : List Entry) : Type 0 where
   pub judge : (m : ℕ) → 0 < m → may change.judge m
   pub bytes : IsThrough opening change.seen change.from change.to
   pub given : WasGiven change.seen history
@@ -54,7 +54,7 @@ abbrev pub dax_zero_entry : ClaimsView → Tag → Sample → ℕ → ℕ → Re
 dax_zero_entry claims by seen from to answer = record { caller = claims.caller; event = DaxZero by seen from to; outcome = finished answer }
 
 -- The turn laid zeros over the sectors of mapped blocks and left its stamps, after one judgement where the blocks are mapped; or it was refused, and changed nothing but the judge
-pub record ZeroedDax {F : Type 0} (step : F → ℕ → Done → F → Type 0) (change : DaxZeroBytes F) (before : RangeView) (claims : ClaimsView) (later : DaxZeroBytes F) (after : RangeView) (left : ClaimsView) (answer : Result (Unit {0}) EventFault) (entry : Entry) : Type 0 where
+pub record ZeroedDax {F : Type 0} (step : F → ℕ → Done → F → Type 0) (change : DaxZeroRun F) (before : RangeView) (claims : ClaimsView) (later : DaxZeroRun F) (after : RangeView) (left : ClaimsView) (answer : Result (Unit {0}) EventFault) (entry : Entry) : Type 0 where
   pub by : later.by ≡ change.by
   pub seen : later.seen ≡ change.seen
   pub from : later.from ≡ change.from

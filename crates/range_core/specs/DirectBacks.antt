@@ -25,7 +25,7 @@ use Rattle.range_core.specs.declared.entry.Outcome.TheVariants.{Finished}
 use Rattle.range_core.specs.declared.lending.Held.{Held}
 use Rattle.range_core.specs.declared.lending.Lender.TheVariants.{Direct}
 use Rattle.range_core.specs.declared.lending.Lent.{Lent}
-use Rattle.range_core.specs.declared.range.direct.EndDirect.{EndDirect}
+use Rattle.range_core.specs.declared.range.lend_direct.DirectBackRun.{DirectBackRun}
 
 -- the kind of the first block that a claim names
 abbrev pub kind_held : Option Held → Kind
@@ -63,7 +63,7 @@ KeepsPages Read lent back = map (λ p. p.number) back ≡ map (λ p. p.number) l
 KeepsPages Write lent back = back ≡ lent
 
 -- what comes back
-abbrev pub back_in : EndDirect → Lent
+abbrev pub back_in : DirectBackRun → Lent
 back_in change = lent_in change.back
   where
     lent_in : Option Lent → Lent
@@ -71,7 +71,7 @@ back_in change = lent_in change.back
     lent_in (Some back) = back
 
 -- The turn may begin: what comes back was lent for the same call in the same direction
-pub record ReadyToReturn (change : EndDirect) (opening : RangeView) (claims : ClaimsView) : Type 0 where
+pub record ReadyToReturn (change : DirectBackRun) (opening : RangeView) (claims : ClaimsView) : Type 0 where
   pub back : Lent
   pub back_is : change.back ≡ Some back
   pub may : MayComeBack opening claims (Direct change.by change.op) change.op back change.done
@@ -87,7 +87,7 @@ pub record IsCold (c : Cell) : Type 0 where
   pub page : c.page ≡ None
   pub clean : c.dirty ≡ false
 
-abbrev pub back_entry : ClaimsView → EndDirect → Entry
+abbrev pub back_entry : ClaimsView → DirectBackRun → Entry
 back_entry claims change = record {
   caller = claims.caller;
   event = DirectBack change.by change.op (back_in change).ticket (back_in change).block (kind_held claims.held) (map (λ p. p.bytes) (pages_held claims.held)) change.done;
@@ -95,7 +95,7 @@ back_entry claims change = record {
 }
 
 -- What the turn did: the sectors are home, and the pages came back in order
-pub record ReturnedDirectly (change later : EndDirect) (opening : RangeView) (history : List Entry) (before after : RangeView) (claims left : ClaimsView) (pages : List Part) (entry : Entry) : Type 0 where
+pub record ReturnedDirectly (change later : DirectBackRun) (opening : RangeView) (history : List Entry) (before after : RangeView) (claims left : ClaimsView) (pages : List Part) (entry : Entry) : Type 0 where
   pub change_is : later ≡ record change { back = None }
   pub value : after ≡ after_direct_back before change.by change.op (kind_held claims.held) (back_in change) change.done
   pub cold : (k : ℕ) (c : Cell) → k < length (pages_of pages) → slice_get after.cells ((back_in change).block - after.first + k) ≡ Some c → IsCold c

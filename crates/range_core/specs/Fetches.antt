@@ -14,7 +14,7 @@ use Rattle.range_core.specs.declared.entry.Event.TheVariants.{Fetch}
 use Rattle.range_core.specs.declared.fault.EventFault.{EventFault}
 use Rattle.range_core.specs.declared.fault.EventFault.TheVariants.{NoMemory}
 use Rattle.range_core.specs.declared.parts.ByteRun.{ByteRun}
-use Rattle.range_core.specs.declared.range.fetch.FetchBytes.{FetchBytes}
+use Rattle.range_core.specs.declared.range.fetch.FetchRun.{FetchRun}
 
 -- Bytes from one place up to another may be copied to an iov
 pub record CanFetch (r : RangeView) (from to : ℕ) (v : IovView) : Type 0 where
@@ -34,7 +34,7 @@ abbrev pub fetched : RangeView → ℕ → ℕ → List ℕ
 fetched r from to = cached_run r (run_between r.geometry.block_size from to)
 
 -- the entry of a fetch
-abbrev pub fetch_entry : ClaimsView → FetchBytes → Result (Unit {0}) EventFault → Entry
+abbrev pub fetch_entry : ClaimsView → FetchRun → Result (Unit {0}) EventFault → Entry
 fetch_entry claims change answer = record { caller = claims.caller; event = Fetch change.by change.from change.to; outcome = finished answer }
 
 -- the bytes from one place up to another, as the history leaves them
@@ -42,7 +42,7 @@ abbrev pub replayed_run : RangeView → List Entry → ℕ → ℕ → List ℕ
 replayed_run opening history from to = run_bytes (run_between opening.geometry.block_size from to) (λ b. content_at opening history (b - opening.first))
 
 -- The turn copied the bytes as the history leaves them to the iov, gave pages of zeros and left its stamps, or it was refused and changed nothing
-pub record Fetched (change later : FetchBytes) (opening : RangeView) (history : List Entry) (before after : RangeView) (claims left : ClaimsView) (answer : Result (Unit {0}) EventFault) (entry : Entry) : Type 0 where
+pub record Fetched (change later : FetchRun) (opening : RangeView) (history : List Entry) (before after : RangeView) (claims left : ClaimsView) (answer : Result (Unit {0}) EventFault) (entry : Entry) : Type 0 where
   pub by : later.by ≡ change.by
   pub from : later.from ≡ change.from
   pub to : later.to ≡ change.to

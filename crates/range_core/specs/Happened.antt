@@ -12,7 +12,7 @@ use Rattle.range_core.specs.Spots.{in_run, is_met}
 use Rattle.range_core.specs.declared.cell.Cell.{Cell}
 use Rattle.range_core.specs.declared.entry.Entry.{Entry}
 use Rattle.range_core.specs.declared.entry.Event.{Event}
-use Rattle.range_core.specs.declared.entry.Event.TheVariants.{TakeSample, Reserve, Unreserve, Attach, Preallocate, Fetch, LendRead, FillBack, Store, StoreZeros, LendWriteback, WrittenBack, DropClean, LendDirect, DirectBack, DirectNow, Wipe, DaxGet, DaxPut, DaxZero}
+use Rattle.range_core.specs.declared.entry.Event.TheVariants.{Sample, Reserve, Unreserve, Attach, Preallocate, Fetch, LendRead, FillBack, Store, StoreZeros, LendWriteback, WrittenBack, DropClean, LendDirect, DirectBack, DirectNow, Wipe, DaxGet, DaxPut, DaxZero}
 use Rattle.range_core.specs.declared.entry.Outcome.{Outcome}
 use Rattle.range_core.specs.declared.entry.Outcome.TheVariants.{Refused, Sampled, Counted, Took, Lending, Finished}
 use Rattle.range_core.specs.declared.lending.Away.{Away}
@@ -68,7 +68,7 @@ took_just t (Some d) = t
 -- What an event that came about found of block b. A refused one says nothing of it, and no event comes to what another comes to
 abbrev pub found_by : ℕ → ℕ → Event → Outcome → BlockState → Bool
 found_by size b _ (Refused fault) s = true
-found_by size b (TakeSample block most) (Sampled sample) s = true
+found_by size b (Sample block most) (Sampled sample) s = true
 found_by size b (Reserve seen blocks) (Sampled sample) s = if in_run sample.extent.block sample.extent.length b then is_hole s.kind else true
 found_by size b (Unreserve block blocks) (Counted n) s = true
 found_by size b (Attach block blocks) (Took sectors) s = took_just (in_run block blocks b && (is_delalloc s.kind && s.dirty)) (taken_by b sectors)

@@ -9,7 +9,7 @@ use Rattle.range_core.specs.Runs.{run_length}
 use Rattle.range_core.specs.declared.cell.Cell.{Cell}
 use Rattle.range_core.specs.declared.entry.Entry.{Entry}
 use Rattle.range_core.specs.declared.entry.Event.{Event}
-use Rattle.range_core.specs.declared.entry.Event.TheVariants.{TakeSample}
+use Rattle.range_core.specs.declared.entry.Event.TheVariants as events
 use Rattle.range_core.specs.declared.entry.Outcome.{Outcome}
 use Rattle.range_core.specs.declared.entry.Outcome.TheVariants.{Sampled}
 use Rattle.range_core.specs.declared.sample.Sample.{Sample}
@@ -30,7 +30,7 @@ sample_at r b most = record { cookie = r.cookie; errors = r.errors; extent = ext
 
 -- how many blocks a sample was asked for: what the event said, or what was reserved
 abbrev pub most_asked : Event → Sample → ℕ
-most_asked (TakeSample block most) sample = most
+most_asked (events.Sample block most) sample = most
 most_asked _ sample = sample.extent.length
 
 -- a sample is of a block of the range, and of a cookie that was; where that is the present one, it is of the present extent

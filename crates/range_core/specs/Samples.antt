@@ -1,28 +1,32 @@
--- What an earlier sample tells of a range.
-use Rattle.std.specs.Prelude.{◌≡◌, ℕ, ◌+◌, ◌-◌, ◌%◌, ◌<◌, ◌≤◌, Some, List, length, slice_get}
-use Rattle.iob_base.specs.declared.TheConstants.{STRIPE}
-use Rattle.io_model.specs.Kinds.{kind_after}
-use Rattle.io_model.specs.declared.file.Extent.{Extent}
-use Rattle.range_core.specs.RangeView.{RangeView}
-use Rattle.range_core.specs.declared.cell.Cell.{Cell}
+-- What a turn that takes a sample does.
+use Rattle.std.specs.Prelude.{◌≡◌, ℕ, ◌<◌}
+use Rattle.range_core.specs.ClaimsView.{ClaimsView}
+use Rattle.range_core.specs.Lookups.{sample_at}
+use Rattle.range_core.specs.RangeView.{LiesAt, RangeView}
 use Rattle.range_core.specs.declared.entry.Entry.{Entry}
+use Rattle.range_core.specs.declared.entry.Event.TheVariants as events
 use Rattle.range_core.specs.declared.entry.Outcome.TheVariants.{Sampled}
+use Rattle.range_core.specs.declared.range.sample.SampleRun.{SampleRun}
 use Rattle.range_core.specs.declared.sample.Sample.{Sample}
 
--- an entry of these gave the sample
-pub record WasGiven (sample : Sample) (entries : List Entry) : Type 0 where
-  pub place : ℕ
-  pub entry : Entry
-  pub here : slice_get entries place ≡ Some entry
-  pub gave : entry.outcome ≡ Sampled sample
+-- the entry of a sample
+abbrev pub sample_entry : ClaimsView → SampleRun → Sample → Entry
+sample_entry claims look sample = record { caller = claims.caller; event = events.Sample look.block look.most; outcome = Sampled sample }
 
--- the blocks of an extent have the kinds that it says, they are blocks of the range, and they lie in one stripe
-pub record IsExtentOf (r : RangeView) (extent : Extent) : Type 0 where
-  pub begins : r.first ≤ extent.block
-  pub inside : 0 < extent.length → extent.block - r.first + extent.length ≤ length r.cells
-  pub stripe : extent.length ≤ STRIPE - extent.block % STRIPE
-  pub kinds : (k : ℕ) (c : Cell) → k < extent.length → slice_get r.cells (extent.block - r.first + k) ≡ Some c → c.kind ≡ kind_after extent.kind k
+-- What is looked at: at least one block, from one of the range on
+pub record MaySample (r : RangeView) (b most : ℕ) : Type 0 where
+  pub lies : LiesAt r b 1
+  pub some : 0 < most
 
--- while the cookie of a sample is the range's, its extent is one of the range
-abbrev pub IsKnown : RangeView → Sample → Type 0
-IsKnown r sample = sample.cookie ≡ r.cookie → IsExtentOf r sample.extent
+-- a sample has at least one block, and they are blocks of the range
+abbrev pub SampleLies : RangeView → Sample → Type 0
+SampleLies r sample = LiesAt r sample.extent.block sample.extent.length
+
+-- The turn gave the present sample, and nothing changed
+pub record GaveSample (opening : RangeView) (look later : SampleRun) (before after : RangeView) (claims left : ClaimsView) (sample : Sample) (entry : Entry) : Type 0 where
+  pub change : later ≡ look
+  pub value : after ≡ before
+  pub claims_are : left ≡ claims
+  pub sample_is : sample ≡ sample_at before look.block look.most
+  pub entry_is : entry ≡ sample_entry claims look sample
+  pub lies : SampleLies opening sample

@@ -12,7 +12,7 @@ use Rattle.range_core.specs.Outcomes.{finished}
 use Rattle.range_core.specs.Paging.{filled}
 use Rattle.range_core.specs.RangeView.{RangeView}
 use Rattle.range_core.specs.Refusals.{store_refusal}
-use Rattle.range_core.specs.Samples.{WasGiven}
+use Rattle.range_core.specs.KnownSamples.{WasGiven}
 use Rattle.range_core.specs.Spots.{blocks_met, overlaid}
 use Rattle.range_core.specs.declared.cell.Cell.{Cell}
 use Rattle.range_core.specs.declared.entry.Entry.{Entry}
@@ -20,7 +20,7 @@ use Rattle.range_core.specs.declared.entry.Event.TheVariants.{Store}
 use Rattle.range_core.specs.declared.fault.EventFault.{EventFault}
 use Rattle.range_core.specs.declared.fault.EventFault.TheVariants.{NoMemory}
 use Rattle.range_core.specs.declared.parts.ByteRun.{ByteRun}
-use Rattle.range_core.specs.declared.range.store.StoreBytes.{StoreBytes}
+use Rattle.range_core.specs.declared.range.store.StoreRun.{StoreRun}
 use Rattle.range_core.specs.declared.sample.Sample.{Sample}
 
 -- The blocks of a range that have bytes from one place up to another are blocks of an extent in it
@@ -64,21 +64,21 @@ abbrev pub after_store : RangeView → Tag → ℕ → ℕ → List ℕ → Rang
 after_store r by from to bytes = let run = run_between r.geometry.block_size from to in after_bytes (stored run bytes) r by run
 
 -- the bytes that a store has of its iov
-abbrev pub stored_bytes : StoreBytes → List ℕ
+abbrev pub stored_bytes : StoreRun → List ℕ
 stored_bytes change = next_bytes change.iov.now (change.to - change.from)
 
 -- the entry of a store
-abbrev pub store_entry : ClaimsView → StoreBytes → Result (Unit {0}) EventFault → Entry
+abbrev pub store_entry : ClaimsView → StoreRun → Result (Unit {0}) EventFault → Entry
 store_entry claims change answer =
     record { caller = claims.caller; event = Store change.by change.seen change.from change.to (stored_bytes change); outcome = finished answer }
 
 -- A store may be made at a turn of a seat that was given the sample
-pub record MayStore (change : StoreBytes) (opening : RangeView) (seen : List Entry) : Type 0 where
+pub record MayStore (change : StoreRun) (opening : RangeView) (seen : List Entry) : Type 0 where
   pub can : CanStore opening change.seen change.from change.to change.iov.now
   pub given : WasGiven change.seen seen
 
 -- The turn laid the iov's bytes over the blocks met, made them dirty and left its stamps, or it was refused and changed nothing
-pub record Stored (change later : StoreBytes) (before after : RangeView) (claims left : ClaimsView) (answer : Result (Unit {0}) EventFault) (entry : Entry) : Type 0 where
+pub record Stored (change later : StoreRun) (before after : RangeView) (claims left : ClaimsView) (answer : Result (Unit {0}) EventFault) (entry : Entry) : Type 0 where
   pub by : later.by ≡ change.by
   pub seen : later.seen ≡ change.seen
   pub from : later.from ≡ change.from

@@ -7,7 +7,7 @@ use Rattle.range_core.specs.Lookups.{extent_at, sample_at}
 use Rattle.range_core.specs.RangeView.{LiesAt, RangeView, cells_from}
 use Rattle.range_core.specs.declared.cell.Cell.{Cell}
 use Rattle.range_core.specs.declared.entry.Entry.{Entry}
-use Rattle.range_core.specs.declared.entry.Event.TheVariants.{TakeSample}
+use Rattle.range_core.specs.declared.entry.Event.TheVariants as events
 use Rattle.range_core.specs.declared.entry.Outcome.TheVariants.{Sampled}
 use Rattle.range_core.specs.declared.range.survey.Survey.{Survey}
 use Rattle.range_core.specs.declared.range.survey.SurveyRun.{SurveyRun}
@@ -34,4 +34,4 @@ pub record Surveyed (opening : RangeView) (change later : SurveyRun) (before aft
   pub survey_is : survey ≡ survey_at before change.block change.most
   pub lies : LiesAt opening survey.extent.block survey.extent.length
   pub tells : TellsDirty before survey
-  pub entry_is : entry ≡ record { caller = claims.caller; event = TakeSample change.block change.most; outcome = Sampled (sample_at before change.block change.most) }
+  pub entry_is : entry ≡ record { caller = claims.caller; event = events.Sample change.block change.most; outcome = Sampled (sample_at before change.block change.most) }

@@ -9,7 +9,7 @@ use iob_base::{Items, Op, Tag};
 /// the cache's pages, or from a transfer of a caller's own, is told with its ticket and the kind of its first block.
 pub enum Event {
     /// A look at the extent from a block on, of at most `most` blocks.
-    TakeSample {
+    Sample {
         block: u64,
         most: u64,
     },

@@ -61,9 +61,9 @@ pub use laws::{
 };
 pub use lending::{Away, Held, Lender, Lent, Pages};
 pub use range::{
-    AttachRun, DaxGetBytes, DaxPutBytes, DaxZeroBytes, DropPages, EndDirect, EndWriteback,
-    FetchBytes, FillPages, FindDue, Found, LendCold, LendDirty, LendPages, Look, PreallocateRun,
-    Range, ReadNow, ReserveRun, StoreBytes, StoreZeroBytes, Survey, SurveyRun, UnreserveRun,
-    WipeRun,
+    AttachRun, DaxGetRun, DaxPutRun, DaxZeroRun, DirectBackRun, DirectNowRun, DropCleanRun,
+    FetchRun, FillBackRun, FindDueRun, Found, LendDirectRun, LendReadRun, LendWritebackRun,
+    PreallocateRun, Range, ReserveRun, SampleRun, StoreRun, StoreZerosRun, Survey, SurveyRun,
+    UnreserveRun, WipeRun, WrittenBackRun,
 };
 pub use sample::Sample;

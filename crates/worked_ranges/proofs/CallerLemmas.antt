@@ -10,7 +10,7 @@ use Rattle.range_core.proofs.SampleLemmas.{given_later}
 use Rattle.range_core.specs.ClaimsView.{ClaimsView, released}
 use Rattle.range_core.specs.Lends.{TakesHold}
 use Rattle.range_core.specs.RangeView.{LiesAt, RangeView}
-use Rattle.range_core.specs.Samples.{WasGiven}
+use Rattle.range_core.specs.KnownSamples.{WasGiven}
 use Rattle.range_core.specs.declared.entry.Entry.{Entry}
 use Rattle.range_core.specs.declared.lending.Lender.{Lender}
 use Rattle.range_core.specs.declared.lending.Lent.{Lent}

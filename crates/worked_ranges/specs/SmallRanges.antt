@@ -17,7 +17,7 @@ use Rattle.turn_cell.specs.declared.seat.TurnSeat.{TurnSeat}
 use Rattle.space_pool.specs.Pool.{PoolView}
 use Rattle.range_core.specs.ClaimsView.{ClaimsView}
 use Rattle.range_core.specs.RangeView.{RangeView, LiesAt}
-use Rattle.range_core.specs.Samples.{WasGiven}
+use Rattle.range_core.specs.KnownSamples.{WasGiven}
 use Rattle.range_core.specs.declared.entry.Entry.{Entry}
 use Rattle.range_core.specs.declared.lending.Held.{Held}
 use Rattle.range_core.specs.declared.lending.Lender.{Lender}

@@ -6,7 +6,7 @@ ghost use Rattle.worked_ranges.specs.SmallRanges.{IsBuffer, Stands};
 use crate::range_caller::Caller;
 use io_model::Kind;
 use iov_iter::IovIter;
-use range_core::{EventFault, FetchBytes, StoreBytes, StoreZeroBytes};
+use range_core::{EventFault, FetchRun, StoreRun, StoreZerosRun};
 use std::alloc::{AllocError, Global};
 use std::process::Abort;
 use std::sync::Wait;
@@ -45,7 +45,7 @@ impl<'a, R: Abort + Wait> Caller<'a, R> {
         self.expect_cached();
         self.expect_folio(from, to);
         let _ = iov.count();
-        let mut change = FetchBytes {
+        let mut change = FetchRun {
             by: self.by,
             from,
             to,
@@ -93,7 +93,7 @@ impl<'a, R: Abort + Wait> Caller<'a, R> {
         self.expect_covered(seen.extent, from, to);
         self.expect_space(seen.extent.kind);
         let _ = iov.count();
-        let mut change = StoreBytes {
+        let mut change = StoreRun {
             by: self.by,
             seen,
             from,
@@ -127,7 +127,7 @@ impl<'a, R: Abort + Wait> Caller<'a, R> {
         self.expect_cached();
         self.expect_folio(from, to);
         self.expect_covered(seen.extent, from, to);
-        let mut change = StoreZeroBytes {
+        let mut change = StoreZerosRun {
             by: self.by,
             seen,
             from,

@@ -9,8 +9,8 @@ use crate::range_ground::Ground;
 use io_model::{Extent, Kind};
 use iob_base::{Mode, Tag};
 use range_core::{
-    AttachRun, DropPages, EventFault, Lender, Lent, Look, NextCaller, PreallocateRun, Range,
-    ReserveRun, Sample, UnreserveRun, WipeRun,
+    AttachRun, DropCleanRun, EventFault, Lender, Lent, NextCaller, PreallocateRun, Range,
+    ReserveRun, Sample, SampleRun, UnreserveRun, WipeRun,
 };
 use std::alloc::Global;
 use std::process::Abort;
@@ -172,7 +172,7 @@ impl<'a, R: Abort + Wait> Caller<'a, R> {
     {
         self.expect_run(block, 1);
         assert!(self.rt; 0 < most, "some blocks");
-        let mut change = Look { block, most };
+        let mut change = SampleRun { block, most };
         let sample = self.ground.cell.turn(self.rt, &mut self.seat, &mut change);
         self.sample = Some(sample);
         sample
@@ -184,7 +184,7 @@ impl<'a, R: Abort + Wait> Caller<'a, R> {
         ensures stands { Stands self.new.ground.now.cell self.new.seat self.new.sample self.new.loan }
     {
         self.expect_run(block, blocks);
-        let mut change = DropPages { block, blocks };
+        let mut change = DropCleanRun { block, blocks };
         self.ground.cell.turn(self.rt, &mut self.seat, &mut change)
     }
 

@@ -7,7 +7,7 @@ use crate::range_caller::Caller;
 use fault_device::{Done, Lane};
 use iob_base::Mode;
 use iov_iter::IovIter;
-use range_core::{DaxGetBytes, DaxPutBytes, DaxZeroBytes, EventFault, Sample};
+use range_core::{DaxGetRun, DaxPutRun, DaxZeroRun, EventFault, Sample};
 use std::alloc::AllocError;
 use std::process::Abort;
 use std::sync::Wait;
@@ -47,7 +47,7 @@ impl<'a, R: Abort + Wait> Caller<'a, R> {
     {
         let seen = self.expect_through(from, to);
         let _ = iov.count();
-        let mut change = DaxGetBytes {
+        let mut change = DaxGetRun {
             by: self.by,
             judge: |n: u32| -> Done
                 requires { 0 < n }
@@ -92,7 +92,7 @@ impl<'a, R: Abort + Wait> Caller<'a, R> {
     {
         let seen = self.expect_through(from, to);
         let _ = iov.count();
-        let mut change = DaxPutBytes {
+        let mut change = DaxPutRun {
             rt: self.rt,
             space: &self.ground.space,
             by: self.by,
@@ -129,7 +129,7 @@ impl<'a, R: Abort + Wait> Caller<'a, R> {
         ensures stands { Stands self.new.ground.now.cell self.new.seat self.new.sample self.new.loan }
     {
         let seen = self.expect_through(from, to);
-        let mut change = DaxZeroBytes {
+        let mut change = DaxZeroRun {
             by: self.by,
             judge: |n: u32| -> Done
                 requires { 0 < n }

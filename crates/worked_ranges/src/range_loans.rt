@@ -4,7 +4,7 @@ ghost use Rattle.arrayvec.specs.ArrayVec.{array_vec_len};
 ghost use Rattle.fault_device.specs.Transfer.{CanTransfer};
 ghost use Rattle.iob_base.specs.Parting.{IsBare, pages_of};
 ghost use Rattle.range_core.specs.BlockTruth.{IsWholePage};
-ghost use Rattle.range_core.specs.DirectLends.{CanTake};
+ghost use Rattle.range_core.specs.LendDirects.{CanTake};
 ghost use Rattle.range_core.specs.Returning.{parts_after};
 ghost use Rattle.worked_ranges.specs.SmallRanges.{IsWholeAndBare, Stands};
 
@@ -14,8 +14,8 @@ use fault_device::{Done, Lane, can_transfer};
 use io_model::{Extent, Kind};
 use iob_base::{Items, Op, Page, Parts, Tag};
 use range_core::{
-    Direct, DirectRefused, EndDirect, EndWriteback, EventFault, FillPages, LendCold, LendDirty,
-    LendPages, Lender, Lent, Pages, ReadNow,
+    Direct, DirectBackRun, DirectNowRun, DirectRefused, EventFault, FillBackRun, LendDirectRun,
+    LendReadRun, LendWritebackRun, Lender, Lent, Pages, WrittenBackRun,
 };
 use std::alloc::{AllocError, Global};
 use std::process::Abort;
@@ -152,7 +152,7 @@ impl<'a, R: Abort + Wait> Caller<'a, R> {
         self.expect_cached();
         self.expect_run(block, blocks);
         self.expect_free();
-        let mut change = LendCold { block, blocks };
+        let mut change = LendReadRun { block, blocks };
         match self.ground.cell.turn(self.rt, &mut self.seat, &mut change) {
             Ok(lent) => {
                 self.expect_loan(&lent);
@@ -171,7 +171,7 @@ impl<'a, R: Abort + Wait> Caller<'a, R> {
     {
         self.expect_run(block, blocks);
         self.expect_free();
-        let mut change = LendDirty { block, blocks };
+        let mut change = LendWritebackRun { block, blocks };
         match self.ground.cell.turn(self.rt, &mut self.seat, &mut change) {
             Ok(lent) => {
                 self.expect_loan(&lent);
@@ -223,7 +223,7 @@ impl<'a, R: Abort + Wait> Caller<'a, R> {
         self.expect_run(block, n);
         self.expect_inside(seen.extent, block, n);
         self.expect_target(op, seen.extent.kind);
-        let mut change = LendPages {
+        let mut change = LendDirectRun {
             by: self.by,
             seen,
             op,
@@ -264,7 +264,7 @@ impl<'a, R: Abort + Wait> Caller<'a, R> {
         ensures stands { Stands self.new.ground.now.cell self.new.seat self.new.sample self.new.loan }
     {
         let done = carry(lane, Op::Read, &mut back);
-        let mut change = FillPages {
+        let mut change = FillBackRun {
             back: Some(back),
             done,
         };
@@ -279,7 +279,7 @@ impl<'a, R: Abort + Wait> Caller<'a, R> {
         ensures stands { Stands self.new.ground.now.cell self.new.seat self.new.sample self.new.loan }
     {
         let done = carry(lane, Op::Write, &mut back);
-        let mut change = EndWriteback {
+        let mut change = WrittenBackRun {
             back: Some(back),
             done,
         };
@@ -298,7 +298,7 @@ impl<'a, R: Abort + Wait> Caller<'a, R> {
         ensures stands { Stands self.new.ground.now.cell self.new.seat self.new.sample self.new.loan }
     {
         let done = carry(lane, op, &mut back);
-        let mut change = EndDirect {
+        let mut change = DirectBackRun {
             by,
             op,
             back: Some(back),
@@ -345,7 +345,7 @@ impl<'a, R: Abort + Wait> Caller<'a, R> {
         self.expect_cached();
         self.expect_run(block, 1);
         assert!(self.rt; 0 < pages.len(), "some pages");
-        let mut change = ReadNow {
+        let mut change = DirectNowRun {
             by: self.by,
             judge: |n: u32| -> Done
                 requires { 0 < n }

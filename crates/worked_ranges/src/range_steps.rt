@@ -13,7 +13,7 @@ use std::sync::Wait;
 /// one place on. Where a sample is needed it is the one that a look has given the caller last.
 #[derive(Clone, Copy)]
 pub(crate) enum Step {
-    Look(u64, u64),
+    SampleRun(u64, u64),
     Drop(u64, u64),
     /// The first blocks of the sample.
     Reserve(u64),
@@ -24,14 +24,14 @@ pub(crate) enum Step {
     Fetch(u64, u64),
     Store(u64, &'static [u8]),
     StoreZeros(u64, u64),
-    LendCold(u64, u64),
-    LendDirty(u64, u64),
+    LendReadRun(u64, u64),
+    LendWritebackRun(u64, u64),
     /// A page for each block from one on, filled with these bytes.
     LendDirect(Op, u64, &'static [u8]),
     /// The transfer of what was lent, and its return.
     Back,
     /// The same pages.
-    ReadNow(u64, &'static [u8]),
+    DirectNowRun(u64, &'static [u8]),
     DaxGet(u64, u64),
     DaxPut(u64, &'static [u8]),
     DaxZero(u64, u64),
@@ -45,7 +45,7 @@ impl<'a, R: Abort + Wait> Caller<'a, R> {
     {
         let alloc = self.alloc;
         match step {
-            Step::Look(block, most) => self.look(block, most).told(alloc),
+            Step::SampleRun(block, most) => self.look(block, most).told(alloc),
             Step::Drop(block, blocks) => self.drop_clean(block, blocks).told(alloc),
             Step::Reserve(blocks) => self.reserve(blocks).told(alloc),
             Step::Unreserve(block, blocks) => self.unreserve(block, blocks).told(alloc),
@@ -55,11 +55,11 @@ impl<'a, R: Abort + Wait> Caller<'a, R> {
             Step::Fetch(from, to) => self.fetch(from, to)?.told(alloc),
             Step::Store(from, bytes) => self.store(from, bytes)?.told(alloc),
             Step::StoreZeros(from, to) => self.store_zeros(from, to).told(alloc),
-            Step::LendCold(block, blocks) => self.lend_cold(block, blocks).told(alloc),
-            Step::LendDirty(block, blocks) => self.lend_dirty(block, blocks).told(alloc),
+            Step::LendReadRun(block, blocks) => self.lend_cold(block, blocks).told(alloc),
+            Step::LendWritebackRun(block, blocks) => self.lend_dirty(block, blocks).told(alloc),
             Step::LendDirect(op, block, fills) => self.lend_direct(op, block, fills)?.told(alloc),
             Step::Back => self.bring_back(lane).told(alloc),
-            Step::ReadNow(block, fills) => self.read_now(lane, block, fills)?.told(alloc),
+            Step::DirectNowRun(block, fills) => self.read_now(lane, block, fills)?.told(alloc),
             Step::DaxGet(from, to) => self.dax_get(lane, from, to)?.told(alloc),
             Step::DaxPut(from, bytes) => self.dax_put(lane, from, bytes)?.told(alloc),
             Step::DaxZero(from, to) => self.dax_zero(lane, from, to).told(alloc),

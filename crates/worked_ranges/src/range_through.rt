@@ -11,26 +11,30 @@ const STRAIGHT: Run = Run {
     begin: DAX,
     fails: &[],
     lines: &[
-        (0, Step::Look(0, 6), "cookie 0, errors 0, 0+2 mapped 2"),
+        (0, Step::SampleRun(0, 6), "cookie 0, errors 0, 0+2 mapped 2"),
         (0, Step::DaxGet(12, 20), "mnopABCD"),
         (0, Step::DaxPut(14, b"xyz"), "ok"),
         (0, Step::DaxGet(12, 20), "mnxyzBCD"),
         (0, Step::DaxZero(15, 17), "ok"),
         (0, Step::DaxGet(12, 20), "mnx..BCD"),
-        (0, Step::Look(2, 6), "cookie 0, errors 0, 2+1 unwritten 5"),
+        (
+            0,
+            Step::SampleRun(2, 6),
+            "cookie 0, errors 0, 2+1 unwritten 5",
+        ),
         (0, Step::DaxGet(32, 36), "...."),
         (0, Step::DaxZero(32, 40), "ok"),
         (0, Step::DaxPut(37, b"mid"), "ok"),
         (0, Step::DaxGet(32, 48), "Stale { sample: 0, now: 1 }"),
         (0, Step::DaxZero(32, 48), "Stale { sample: 0, now: 1 }"),
         (0, Step::DaxPut(32, b"late"), "Stale { sample: 0, now: 1 }"),
-        (0, Step::Look(2, 6), "cookie 1, errors 0, 2+1 mapped 5"),
+        (0, Step::SampleRun(2, 6), "cookie 1, errors 0, 2+1 mapped 5"),
         (0, Step::DaxGet(32, 48), ".....mid........"),
-        (0, Step::Look(3, 6), "cookie 1, errors 0, 3+3 hole"),
+        (0, Step::SampleRun(3, 6), "cookie 1, errors 0, 3+3 hole"),
         (0, Step::DaxPut(60, b"acrossx"), "ok"),
-        (0, Step::Look(3, 6), "cookie 2, errors 0, 3+2 mapped 0"),
+        (0, Step::SampleRun(3, 6), "cookie 2, errors 0, 3+2 mapped 0"),
         (0, Step::DaxGet(56, 72), "....acrossx....."),
-        (0, Step::LendDirty(0, 1), "Settled { block: 0 }"),
+        (0, Step::LendWritebackRun(0, 1), "Settled { block: 0 }"),
     ],
 };
 
@@ -39,7 +43,7 @@ const STRAIGHT_FAILS: Run = Run {
     begin: DAX,
     fails: &[1, 2, 3],
     lines: &[
-        (0, Step::Look(0, 6), "cookie 0, errors 0, 0+2 mapped 2"),
+        (0, Step::SampleRun(0, 6), "cookie 0, errors 0, 0+2 mapped 2"),
         (
             0,
             Step::DaxGet(0, 4),
@@ -64,13 +68,17 @@ const STRAIGHT_UNJUDGED: Run = Run {
     begin: DAX,
     fails: &[1],
     lines: &[
-        (0, Step::Look(2, 6), "cookie 0, errors 0, 2+1 unwritten 5"),
+        (
+            0,
+            Step::SampleRun(2, 6),
+            "cookie 0, errors 0, 2+1 unwritten 5",
+        ),
         (0, Step::DaxGet(32, 36), "...."),
         (0, Step::DaxZero(32, 40), "ok"),
-        (0, Step::Look(3, 6), "cookie 0, errors 0, 3+3 hole"),
+        (0, Step::SampleRun(3, 6), "cookie 0, errors 0, 3+3 hole"),
         (0, Step::DaxGet(60, 68), "........"),
         (0, Step::DaxZero(60, 68), "ok"),
-        (0, Step::Look(0, 6), "cookie 0, errors 0, 0+2 mapped 2"),
+        (0, Step::SampleRun(0, 6), "cookie 0, errors 0, 0+2 mapped 2"),
         (
             0,
             Step::DaxGet(0, 4),
@@ -85,16 +93,24 @@ const STRAIGHT_UNMAPPED: Run = Run {
     begin: DAX,
     fails: &[1],
     lines: &[
-        (0, Step::Look(2, 6), "cookie 0, errors 0, 2+1 unwritten 5"),
+        (
+            0,
+            Step::SampleRun(2, 6),
+            "cookie 0, errors 0, 2+1 unwritten 5",
+        ),
         (
             0,
             Step::DaxPut(37, b"mid"),
             "Poison { done: Done { lane: 3, blocks: 1, landed: 0, failed: true, before: 0, after: 1 } }",
         ),
-        (0, Step::Look(2, 6), "cookie 0, errors 0, 2+1 unwritten 5"),
+        (
+            0,
+            Step::SampleRun(2, 6),
+            "cookie 0, errors 0, 2+1 unwritten 5",
+        ),
         (0, Step::DaxGet(32, 48), "................"),
         (0, Step::DaxPut(37, b"mid"), "ok"),
-        (0, Step::Look(2, 6), "cookie 1, errors 0, 2+1 mapped 5"),
+        (0, Step::SampleRun(2, 6), "cookie 1, errors 0, 2+1 mapped 5"),
         (0, Step::DaxGet(32, 48), ".....mid........"),
     ],
 };
@@ -109,7 +125,7 @@ const STRAIGHT_FULL: Run = Run {
     begin: SCARCE,
     fails: &[1],
     lines: &[
-        (0, Step::Look(3, 6), "cookie 0, errors 0, 3+3 hole"),
+        (0, Step::SampleRun(3, 6), "cookie 0, errors 0, 3+3 hole"),
         (
             0,
             Step::DaxPut(63, b"0123456789abcdefgh"),
@@ -120,9 +136,9 @@ const STRAIGHT_FULL: Run = Run {
             Step::DaxPut(63, b"xy"),
             "Poison { done: Done { lane: 3, blocks: 2, landed: 1, failed: true, before: 0, after: 1 } }",
         ),
-        (0, Step::Look(3, 6), "cookie 0, errors 0, 3+3 hole"),
+        (0, Step::SampleRun(3, 6), "cookie 0, errors 0, 3+3 hole"),
         (0, Step::DaxPut(63, b"xy"), "ok"),
-        (0, Step::Look(3, 6), "cookie 1, errors 0, 3+2 mapped 0"),
+        (0, Step::SampleRun(3, 6), "cookie 1, errors 0, 3+2 mapped 0"),
         (0, Step::DaxGet(62, 66), ".xy."),
     ],
 };
@@ -139,7 +155,7 @@ const STRAIGHT_USED_UP: Run = Run {
     lines: &[
         (
             0,
-            Step::Look(3, 6),
+            Step::SampleRun(3, 6),
             "cookie 18446744069414584320, errors 0, 3+3 hole",
         ),
         (
@@ -150,7 +166,7 @@ const STRAIGHT_USED_UP: Run = Run {
         (0, Step::DaxGet(48, 52), "...."),
         (
             0,
-            Step::Look(0, 6),
+            Step::SampleRun(0, 6),
             "cookie 18446744069414584320, errors 0, 0+2 mapped 2",
         ),
         (0, Step::DaxPut(0, b"xyz"), "ok"),

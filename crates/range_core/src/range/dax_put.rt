@@ -17,7 +17,7 @@ ghost use Rattle.range_core.specs.Stores.{next_bytes, past};
 ghost use Rattle.range_core.specs.Through.{made_mapped, through};
 
 use super::Range;
-use super::now::ask;
+use super::direct_now::ask;
 use crate::cell::{Cell, is_mapped_kind};
 use crate::claims::Claims;
 use crate::cookie::{next_cookie, stale_stop, worn_stop};
@@ -126,7 +126,7 @@ fn reserve_judged<R: Wait, F: FnMut(u32) -> Done>(
 
 impl Range {
     ghost use Rattle.range_core.specs.DaxPuts.{CanPutDax, LeavesPut, Passes, PutsDax, RefusesPut, holes_met};
-    ghost use Rattle.range_core.specs.DirectNow.{IsServedBy};
+    ghost use Rattle.range_core.specs.DirectNows.{IsServedBy};
     ghost use Rattle.range_core.specs.Refusals.{dax_put_refusal};
     ghost use Rattle.range_core.specs.Spots.{blocks_met};
 
@@ -241,7 +241,7 @@ impl Range {
 
 /// The turn of `Range::dax_put`, with any judgement. It answers the same.
 #[derive(Drop)]
-pub struct DaxPutBytes<'a, R, F> {
+pub struct DaxPutRun<'a, R, F> {
     pub rt: &'a R,
     pub space: &'a SpacePool,
     pub by: Tag,
@@ -253,7 +253,7 @@ pub struct DaxPutBytes<'a, R, F> {
     pub iov: &'a mut IovIter,
 }
 
-impl<'a, R: Wait, F: FnMut(u32) -> Done> Change<Range> for DaxPutBytes<'a, R, F> {
+impl<'a, R: Wait, F: FnMut(u32) -> Done> Change<Range> for DaxPutRun<'a, R, F> {
     ghost use Rattle.range_core.specs.ClaimsView.{MayTurn};
     ghost use Rattle.range_core.specs.DaxPuts.{MayPutDax, PutDax};
 

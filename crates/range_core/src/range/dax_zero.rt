@@ -4,13 +4,13 @@ ghost use Rattle.fault_device.specs.LaneView.{lane_seen};
 ghost use Rattle.fault_device.specs.Opening.{IsServed, Opening, Serves};
 ghost use Rattle.fault_device.specs.Transfer.{Tells};
 ghost use Rattle.range_core.specs.ByteRuns.{IsByteRun, run_between};
-ghost use Rattle.range_core.specs.DaxReads.{AreHomeIn};
+ghost use Rattle.range_core.specs.DaxGets.{AreHomeIn};
 ghost use Rattle.range_core.specs.DaxZeros.{cleared_through, zeroed_through};
 ghost use Rattle.range_core.specs.Kinds.{is_mapped};
 ghost use Rattle.range_core.specs.OnRun.{on_each};
 
 use super::Range;
-use super::now::ask;
+use super::direct_now::ask;
 use crate::cell::{Cell, is_mapped_kind};
 use crate::claims::Claims;
 use crate::cookie::stale_stop;
@@ -54,7 +54,7 @@ fn clear_through(cells: &mut Vec<Cell>, first: u64, run: ByteRun)
 
 impl Range {
     ghost use Rattle.range_core.specs.DaxZeros.{CanZeroDax, after_dax_zero};
-    ghost use Rattle.range_core.specs.DirectNow.{IsServedBy, PassesNow, RefusesNow};
+    ghost use Rattle.range_core.specs.DirectNows.{IsServedBy, PassesNow, RefusesNow};
     ghost use Rattle.range_core.specs.Refusals.{stale};
     ghost use Rattle.range_core.specs.Spots.{blocks_met};
 
@@ -147,7 +147,7 @@ impl Range {
 
 /// The turn of `Range::dax_zero`, with any judgement. It answers the same.
 #[derive(Drop)]
-pub struct DaxZeroBytes<F> {
+pub struct DaxZeroRun<F> {
     pub by: Tag,
     /// A judgement of so many blocks.
     pub judge: F,
@@ -156,7 +156,7 @@ pub struct DaxZeroBytes<F> {
     pub to: u64,
 }
 
-impl<F: FnMut(u32) -> Done> Change<Range> for DaxZeroBytes<F> {
+impl<F: FnMut(u32) -> Done> Change<Range> for DaxZeroRun<F> {
     ghost use Rattle.range_core.specs.ClaimsView.{MayTurn};
     ghost use Rattle.range_core.specs.DaxZeros.{MayZeroDax, ZeroedDax};
 

@@ -126,14 +126,14 @@ impl Range {
 
 /// The turn of `Range::fetch`, which copies bytes to an iov. It answers the same.
 #[derive(Drop)]
-pub struct FetchBytes<'a> {
+pub struct FetchRun<'a> {
     pub by: Tag,
     pub from: u64,
     pub to: u64,
     pub iov: &'a mut IovIter,
 }
 
-impl<'a> Change<Range> for FetchBytes<'a> {
+impl<'a> Change<Range> for FetchRun<'a> {
     ghost use Rattle.range_core.specs.ClaimsView.{MayTurn};
     ghost use Rattle.range_core.specs.Fetches.{CanFetch, Fetched};
 

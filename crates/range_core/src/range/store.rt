@@ -177,7 +177,7 @@ impl Range {
 
 /// The turn of `Range::store`, which lays an iov's bytes over the cache. It answers the same.
 #[derive(Drop)]
-pub struct StoreBytes<'a> {
+pub struct StoreRun<'a> {
     pub by: Tag,
     pub seen: Sample,
     pub from: u64,
@@ -185,7 +185,7 @@ pub struct StoreBytes<'a> {
     pub iov: &'a mut IovIter,
 }
 
-impl<'a> Change<Range> for StoreBytes<'a> {
+impl<'a> Change<Range> for StoreRun<'a> {
     ghost use Rattle.range_core.specs.ClaimsView.{MayTurn};
     ghost use Rattle.range_core.specs.Stores.{MayStore, Stored};
 

@@ -58,12 +58,12 @@ pub struct SurveyRun {
 
 impl Change<Range> for SurveyRun {
     ghost use Rattle.range_core.specs.ClaimsView.{MayTurn};
-    ghost use Rattle.range_core.specs.Looks.{MayLook};
+    ghost use Rattle.range_core.specs.Samples.{MaySample};
     ghost use Rattle.range_core.specs.Surveys.{Surveyed};
 
     type Out = Survey;
 
-    ghost ready = { λ change opening _ claims. MayTurn claims (MayLook opening change.block change.most) };
+    ghost ready = { λ change opening _ claims. MayTurn claims (MaySample opening change.block change.most) };
 
     ghost does = { λ change opening _ before claims later after left out entry. Surveyed opening change later before after claims left out entry };
 

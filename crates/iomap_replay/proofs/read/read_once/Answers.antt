@@ -17,7 +17,7 @@ use Rattle.iob_base.specs.declared.answer.Fault.TheVariants.{Eio}
 use Rattle.iob_base.specs.declared.answer.Reply.{Reply}
 use Rattle.iob_base.specs.declared.answer.Reply.TheVariants.{Err}
 use Rattle.iomap_replay.specs.Causes.{IsCausedReply}
-use Rattle.range_core.specs.DirectNow.{CanReadNow, IsServedBy, RefusesNow, after_direct_now, now_count, pages_filled}
+use Rattle.range_core.specs.DirectNows.{CanReadNow, IsServedBy, RefusesNow, after_direct_now, now_count, pages_filled}
 use Rattle.range_core.specs.RangeView.{RangeView, cells_from}
 use Rattle.range_core.specs.Refusals.{direct_now_refusal}
 use Rattle.range_core.specs.Runs.{begins_mapped}

@@ -6,7 +6,7 @@ use Rattle.iob_base.specs.declared.part.Part.{Part}
 use Rattle.iob_base.proofs.PartLemmas.{pages_of-without, without-bare}
 use Rattle.range_core.specs.Lends.{home_of}
 use Rattle.range_core.specs.OnRun.{on_each}
-use Rattle.range_core.proofs.NowLemmas.{refill-whole}
+use Rattle.range_core.proofs.DirectNowLemmas.{refill-whole}
 use Rattle.range_core.proofs.lend.bring_home.Goals as goal
 
 pub put_home-requires : goal.put_home-requires

@@ -5,7 +5,7 @@ use Rattle.iob_base.proofs.PartLemmas.{many_pages}
 use Rattle.range_core.specs.Lends.{HaveSectors, lent_cell, parts_of}
 use Rattle.range_core.specs.OnRun.{on_run}
 use Rattle.range_core.proofs.LendLemmas.{length-parts_of}
-use Rattle.range_core.proofs.NowLemmas.{refill-whole}
+use Rattle.range_core.proofs.DirectNowLemmas.{refill-whole}
 use Rattle.range_core.proofs.lend.lend_list.Goals as goal
 
 pub lend_run-requires-clause-within : goal.lend_run-requires-clause-within

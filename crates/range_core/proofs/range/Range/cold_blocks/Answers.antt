@@ -1,9 +1,9 @@
 use Rattle.std.proofs.Common.{◌≡◌, ℕ, ◌-◌, ◌<◌, None, List, length, drop, arith, sym, ap, ◌∙◌, subst}
-use Rattle.range_core.specs.Fills.{IsColdRun, fill_run}
+use Rattle.range_core.specs.LendReads.{IsColdRun, fill_run}
 use Rattle.range_core.specs.RangeView.{LiesAt, RangeView}
 use Rattle.range_core.specs.Refusals.{◌orElse◌, away, warm}
 use Rattle.range_core.specs.declared.cell.Cell.{Cell}
-use Rattle.range_core.proofs.FillBackLemmas.{cold_run}
+use Rattle.range_core.proofs.LendReadLemmas.{cold_run}
 use Rattle.range_core.proofs.StopLemmas.{never_some}
 use Rattle.range_core.proofs.range.Range.cold_blocks.Goals as goal
 

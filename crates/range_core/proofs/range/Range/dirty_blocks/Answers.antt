@@ -1,10 +1,10 @@
 use Rattle.std.proofs.Common.{◌≡◌, ℕ, ◌-◌, ◌<◌, None, List, All, length, drop, arith, sym, ap, ◌∙◌, subst}
 use Rattle.range_core.specs.RangeView.{LiesAt, RangeView}
 use Rattle.range_core.specs.Refusals.{◌orElse◌, away, not_ready}
-use Rattle.range_core.specs.Writebacks.{IsDirtyRun, IsWritable, write_run}
+use Rattle.range_core.specs.LendWritebacks.{IsDirtyRun, IsWritable, write_run}
 use Rattle.range_core.specs.declared.cell.Cell.{Cell}
 use Rattle.range_core.proofs.StopLemmas.{never_some}
-use Rattle.range_core.proofs.WriteLemmas.{dirty_run}
+use Rattle.range_core.proofs.LendWritebackLemmas.{dirty_run}
 use Rattle.range_core.proofs.range.Range.dirty_blocks.Goals as goal
 
 pub returns-clause-run : goal.returns-clause-run

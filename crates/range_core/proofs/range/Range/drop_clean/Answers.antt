@@ -3,11 +3,11 @@ use Rattle.turn_cell.specs.Seats.{seat_claims, seat_view}
 use Rattle.turn_cell.specs.Stakes.{total}
 use Rattle.range_core.specs.BlockTruth.{is_gone}
 use Rattle.range_core.specs.Cells.{IsPlaced}
-use Rattle.range_core.specs.Drops.{without_clean_page}
+use Rattle.range_core.specs.DropCleans.{without_clean_page}
 use Rattle.range_core.specs.OnRun.{on_each}
 use Rattle.range_core.specs.RangeView.{IsSound, range_view}
 use Rattle.range_core.specs.declared.cell.Cell.{Cell}
-use Rattle.range_core.proofs.DropLemmas.{dropped-gone, dropped-kind, dropped-placed}
+use Rattle.range_core.proofs.DropCleanLemmas.{dropped-gone, dropped-kind, dropped-placed}
 use Rattle.range_core.proofs.OnRunLemmas.{All-on_each, length-on_each, map-on_each, total-on_each}
 use Rattle.range_core.proofs.SoundLemmas.{sound_unlogged}
 use Rattle.range_core.proofs.SpaceLemmas.{space_by_kinds}

@@ -4,10 +4,10 @@ use Rattle.turn_cell.specs.Seats.{seat_claims, seat_view}
 use Rattle.turn_cell.specs.Stakes.{total}
 use Rattle.io_model.specs.Contents.{zeros}
 use Rattle.range_core.specs.BlockTruth.{is_gone}
-use Rattle.range_core.specs.DaxReads.{CanGetDax}
+use Rattle.range_core.specs.DaxGets.{CanGetDax}
 use Rattle.range_core.specs.RangeView.{RangeView, range_view}
 use Rattle.range_core.specs.declared.parts.ByteRun.{ByteRun}
-use Rattle.range_core.proofs.DaxReadLemmas.{run_lies, size-most}
+use Rattle.range_core.proofs.DaxGetLemmas.{run_lies, size-most}
 use Rattle.range_core.proofs.SoundLemmas.{gone-within}
 use Rattle.range_core.proofs.StampedTruth.{stamped_sound}
 use Rattle.range_core.proofs.range.Range.get_through.Goals as goal

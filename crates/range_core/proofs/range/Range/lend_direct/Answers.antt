@@ -3,7 +3,7 @@ use Rattle.turn_cell.specs.Seats.{seat_claims, seat_view}
 use Rattle.turn_cell.specs.Stakes.{total}
 use Rattle.iob_base.specs.Parting.{pages_of}
 use Rattle.range_core.specs.BlockTruth.{is_gone}
-use Rattle.range_core.specs.DirectLends.{CanLendDirect, GoesOut, away_direct, direct_loan}
+use Rattle.range_core.specs.LendDirects.{CanLendDirect, GoesOut, away_direct, direct_loan}
 use Rattle.range_core.specs.Lends.{lent_cell}
 use Rattle.range_core.specs.Lookups.{first_kind}
 use Rattle.range_core.specs.OnRun.{on_run}
@@ -12,7 +12,7 @@ use Rattle.range_core.specs.Refusals.{lend_direct_refusal}
 use Rattle.range_core.specs.declared.cell.Cell.{Cell}
 use Rattle.range_core.specs.declared.direct_answer.Direct.TheVariants.{Lent as LentOut}
 use Rattle.range_core.specs.declared.lending.Lent.{Lent}
-use Rattle.range_core.proofs.DirectLendLemmas.{goes_ready, have_sectors, lendable, lent_sound}
+use Rattle.range_core.proofs.LendDirectLemmas.{goes_ready, have_sectors, lendable, lent_sound}
 use Rattle.range_core.proofs.OnRunLemmas.{length-on_each}
 use Rattle.range_core.proofs.SoundLemmas.{gone-within}
 use Rattle.range_core.proofs.StampedTruth.{stamped_sound}

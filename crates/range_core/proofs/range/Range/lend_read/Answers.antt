@@ -5,7 +5,7 @@ use Rattle.iob_base.specs.declared.sector.Page.{Page}
 use Rattle.fault_device.specs.Transfer.{CanTransfer}
 use Rattle.turn_cell.specs.Seats.{seat_claims, seat_view}
 use Rattle.range_core.specs.BlockTruth.{IsWholePage}
-use Rattle.range_core.specs.Fills.{IsColdRun}
+use Rattle.range_core.specs.LendReads.{IsColdRun}
 use Rattle.range_core.specs.Lends.{HaveSectors}
 use Rattle.range_core.specs.Pages.{zero_page}
 use Rattle.range_core.specs.RangeView.{RangeView, range_view}
@@ -14,7 +14,7 @@ use Rattle.range_core.specs.declared.lending.Away.{Away}
 use Rattle.range_core.specs.declared.lending.Lender.TheVariants.{Reading}
 use Rattle.range_core.specs.declared.lending.Lent.{Lent}
 use Rattle.range_core.proofs.LendLemmas.{MayLend, can_transfer, have_sectors, lend_keeps}
-use Rattle.range_core.proofs.FillBackLemmas.{cold_lends}
+use Rattle.range_core.proofs.LendReadLemmas.{cold_lends}
 use Rattle.range_core.proofs.range.Range.lend_read.Goals as goal
 
 pub lend_blocks-requires-clause-here : goal.lend_blocks-requires-clause-here

@@ -4,7 +4,7 @@ use Rattle.iob_base.specs.declared.sector.Page.{Page}
 use Rattle.fault_device.specs.Transfer.{CanTransfer}
 use Rattle.turn_cell.specs.Seats.{seat_claims, seat_view}
 use Rattle.range_core.specs.BlockTruth.{IsWholePage}
-use Rattle.range_core.specs.Writebacks.{IsDirtyRun, IsWritable, page_copy}
+use Rattle.range_core.specs.LendWritebacks.{IsDirtyRun, IsWritable, page_copy}
 use Rattle.range_core.specs.Lends.{HaveSectors}
 use Rattle.range_core.specs.RangeView.{RangeView, range_view}
 use Rattle.range_core.specs.declared.cell.Cell.{Cell}
@@ -12,7 +12,7 @@ use Rattle.range_core.specs.declared.lending.Away.{Away}
 use Rattle.range_core.specs.declared.lending.Lender.TheVariants.{Writeback}
 use Rattle.range_core.specs.declared.lending.Lent.{Lent}
 use Rattle.range_core.proofs.LendLemmas.{MayLend, can_transfer, have_sectors, lend_keeps}
-use Rattle.range_core.proofs.WriteLemmas.{dirty_lends, copies-length, copies_whole}
+use Rattle.range_core.proofs.LendWritebackLemmas.{dirty_lends, copies-length, copies_whole}
 use Rattle.range_core.proofs.range.Range.lend_writeback.Goals as goal
 
 pub lend_blocks-requires-clause-here : goal.lend_blocks-requires-clause-here

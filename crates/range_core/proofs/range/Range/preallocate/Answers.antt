@@ -3,7 +3,7 @@ use Rattle.iob_base.specs.DeviceBlock.{DeviceBlock}
 use Rattle.space_pool.specs.Claims.{Fits, with_more}
 use Rattle.turn_cell.specs.Seats.{seat_claims, seat_view}
 use Rattle.turn_cell.specs.Stakes.{total}
-use Rattle.range_core.specs.Attaching.{IsRefusedFor, holes_in}
+use Rattle.range_core.specs.Attaches.{IsRefusedFor, holes_in}
 use Rattle.range_core.specs.EntryCounts.{one_where}
 use Rattle.range_core.specs.OnRun.{count_on}
 use Rattle.range_core.specs.Placing.{is_empty, lacks_sector}
@@ -15,7 +15,7 @@ use Rattle.range_core.specs.declared.fault.EventFault.{EventFault}
 use Rattle.range_core.specs.declared.fault.EventFault.TheVariants.{NoSpace}
 use Rattle.range_core.proofs.PlaceSpace.{HasPromised, lacks-spaceless, lies_within, placed_gone, placed_sound, promised_holes, reserved-enough, worn_counted}
 use Rattle.range_core.proofs.PoolLemmas.{none_reserved}
-use Rattle.range_core.proofs.PromiseLemmas.{fits_holes}
+use Rattle.range_core.proofs.ReserveLemmas.{fits_holes}
 use Rattle.range_core.proofs.range.Range.preallocate.Goals as goal
 
 pub returns-in-Some-clause-refused : goal.returns-in-Some-clause-refused

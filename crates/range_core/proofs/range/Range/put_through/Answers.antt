@@ -23,7 +23,7 @@ use Rattle.range_core.specs.declared.parts.ByteRun.{ByteRun}
 use Rattle.range_core.proofs.DaxPutLemmas.{empty-spaceless, full_placed, put_gone, put_sound}
 use Rattle.range_core.proofs.OnRunLemmas.{length-on_each, on_each-twice}
 use Rattle.range_core.proofs.PlaceSpace.{HasPromised, placed_gone, placed_sound, promised_holes}
-use Rattle.range_core.proofs.PromiseLemmas.{fits_holes}
+use Rattle.range_core.proofs.ReserveLemmas.{fits_holes}
 use Rattle.range_core.proofs.SoundLemmas.{gone-within}
 use Rattle.range_core.proofs.StoreLemmas.{length-next_bytes}
 use Rattle.range_core.proofs.range.Range.put_through.Goals as goal

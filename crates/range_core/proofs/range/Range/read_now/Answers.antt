@@ -5,12 +5,12 @@ use Rattle.turn_cell.specs.Seats.{seat_claims, seat_view}
 use Rattle.fault_device.specs.declared.lane.Done.{Done}
 use Rattle.range_core.specs.Refusals.{◌orElse◌, away, dirty, direct_now_refusal, first_that_stops}
 use Rattle.range_core.specs.declared.fault.EventFault.{EventFault}
-use Rattle.range_core.specs.DirectNow.{AreReady, CanReadNow, RefusesNow, now_length, pages_filled}
+use Rattle.range_core.specs.DirectNows.{AreReady, CanReadNow, RefusesNow, now_length, pages_filled}
 use Rattle.range_core.specs.Events.{page_shape}
 use Rattle.range_core.specs.RangeView.{RangeView, range_view}
 use Rattle.range_core.specs.Stamps.{stamps_from}
 use Rattle.range_core.specs.declared.cell.Cell.{Cell}
-use Rattle.range_core.proofs.NowLemmas.{filled-shapes, now_length-ready, now_length-within, read-gone, read_sound, refill-whole}
+use Rattle.range_core.proofs.DirectNowLemmas.{filled-shapes, now_length-ready, now_length-within, read-gone, read_sound, refill-whole}
 use Rattle.range_core.proofs.SoundLemmas.{gone-within}
 use Rattle.range_core.proofs.range.Range.read_now.Goals as goal
 

@@ -7,12 +7,12 @@ use Rattle.range_core.specs.Cells.{IsPlaced}
 use Rattle.range_core.specs.OnRun.{on_each}
 use Rattle.range_core.specs.RangeView.{IsSound, RangeView, range_view}
 use Rattle.range_core.specs.Refusals.{stale, worn}
-use Rattle.range_core.specs.Reserving.{promised_cell}
+use Rattle.range_core.specs.Reserves.{promised_cell}
 use Rattle.range_core.specs.Space.{ClaimsSpace, SpaceClaims}
 use Rattle.range_core.specs.declared.cell.Cell.{Cell}
 use Rattle.range_core.proofs.OnRunLemmas.{length-on_each, total-on_each}
 use Rattle.range_core.proofs.PoolLemmas.{some_reserved}
-use Rattle.range_core.proofs.PromiseLemmas.{AreHoles, fits_holes, holes_counted, promised_placed, sampled_holes, space_promised}
+use Rattle.range_core.proofs.ReserveLemmas.{AreHoles, fits_holes, holes_counted, promised_placed, sampled_holes, space_promised}
 use Rattle.range_core.proofs.SoundLemmas.{sound_unlogged}
 use Rattle.range_core.proofs.StopLemmas.{neither}
 use Rattle.range_core.proofs.range.Range.reserve.Goals as goal

@@ -7,11 +7,11 @@ use Rattle.range_core.specs.Cells.{IsPlaced}
 use Rattle.range_core.specs.OnRun.{count_on, on_each}
 use Rattle.range_core.specs.Placing.{is_unused}
 use Rattle.range_core.specs.RangeView.{IsSound, range_view}
-use Rattle.range_core.specs.Reserving.{released}
+use Rattle.range_core.specs.Reserves.{released}
 use Rattle.range_core.specs.Space.{ClaimsSpace, SpaceClaims}
 use Rattle.range_core.specs.declared.cell.Cell.{Cell}
 use Rattle.range_core.proofs.OnRunLemmas.{All-on_each, length-on_each, total-on_each}
-use Rattle.range_core.proofs.ReleaseLemmas.{released-gone, released-placed, space_released, unused-few}
+use Rattle.range_core.proofs.UnreserveLemmas.{released-gone, released-placed, space_released, unused-few}
 use Rattle.range_core.proofs.SoundLemmas.{sound_unlogged}
 use Rattle.range_core.proofs.range.Range.unreserve.Goals as goal
 

@@ -15,7 +15,7 @@ use Rattle.range_core.specs.RangeView.{IsOfRange, IsSound, LiesAt, RangeView, ra
 use Rattle.range_core.specs.Refusals.{away, first_that_stops, run_of, some_block, wipe_refusal, worn}
 use Rattle.range_core.specs.Space.{ClaimsSpace, SpaceClaims}
 use Rattle.range_core.specs.Stamps.{done_by, stamps_from}
-use Rattle.range_core.specs.Wiping.{Wipes, sectors_of, wiped_run}
+use Rattle.range_core.specs.Wipes.{Wipes, sectors_of, wiped_run}
 use Rattle.range_core.specs.declared.cell.Cell.{Cell}
 use Rattle.range_core.proofs.OnRunLemmas.{length-on_each, total-on_each}
 use Rattle.range_core.proofs.PlaceSpace.{lies_within, unworn_for}

@@ -2,7 +2,7 @@ use Rattle.std.proofs.Common.{◌≡◌, ℕ, ◌+◌, ◌-◌, sym, ◌∙◌, 
 use Rattle.turn_cell.specs.Seats.{seat_claims, seat_view}
 use Rattle.range_core.specs.RangeView.{RangeView, range_view}
 use Rattle.range_core.specs.Refusals.{wipe_refusal}
-use Rattle.range_core.specs.Wiping.{used_in}
+use Rattle.range_core.specs.Wipes.{used_in}
 use Rattle.range_core.proofs.WipeLemmas.{wipe_stops}
 use Rattle.range_core.proofs.range.Range.wipe_stop.Goals as goal
 

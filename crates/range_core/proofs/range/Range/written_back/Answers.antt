@@ -3,12 +3,12 @@ use Rattle.std.specs.Prelude.{slice_get}
 use Rattle.iob_base.specs.declared.stamp.Op.TheVariants.{Write}
 use Rattle.iob_base.specs.declared.part.Part.{Part}
 use Rattle.turn_cell.specs.Seats.{seat_claims, seat_view}
-use Rattle.range_core.specs.Writebacks.{ended_of}
+use Rattle.range_core.specs.LendWritebacks.{ended_of}
 use Rattle.range_core.specs.RangeView.{RangeView, range_view}
 use Rattle.range_core.specs.Returning.{AreOut}
 use Rattle.range_core.specs.declared.cell.Cell.{Cell}
 use Rattle.range_core.specs.declared.lending.Held.{Held}
-use Rattle.range_core.proofs.WriteLemmas.{ended_home}
+use Rattle.range_core.proofs.LendWritebackLemmas.{ended_home}
 use Rattle.range_core.proofs.ReturnHomeLemmas.{AllHome, at_claim, returned_keeps}
 use Rattle.range_core.proofs.range.Range.written_back.Goals as goal
 

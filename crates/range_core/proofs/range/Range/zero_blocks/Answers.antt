@@ -6,11 +6,11 @@ use Rattle.range_core.specs.OnRun.{on_each}
 use Rattle.range_core.specs.Paging.{HasWholePage, HaveWholePages, filled_where, lacks_page_for_zeros}
 use Rattle.range_core.specs.RangeView.{RangeView, range_view}
 use Rattle.range_core.specs.Stamps.{done_by, stamps_from}
-use Rattle.range_core.specs.ZeroStores.{HavePagesForZeros, zeroed}
+use Rattle.range_core.specs.StoreZeros.{HavePagesForZeros, zeroed}
 use Rattle.range_core.specs.declared.cell.Cell.{Cell}
 use Rattle.range_core.proofs.KeptPlaces.{kept_room, kept_sound}
 use Rattle.range_core.proofs.OnRunLemmas.{length-on_each}
-use Rattle.range_core.proofs.ZeroLemmas.{pages_for_zeros, zeroed_keeps, zeroed_twice}
+use Rattle.range_core.proofs.StoreZerosLemmas.{pages_for_zeros, zeroed_keeps, zeroed_twice}
 use Rattle.range_core.proofs.range.Range.zero_blocks.Goals as goal
 
 abbrev fill : ℕ → ℕ → Cell → Cell

@@ -3,7 +3,7 @@ use Rattle.range_core.specs.Lookups.{sample_at}
 use Rattle.range_core.specs.RangeView.{LiesAt}
 use Rattle.range_core.specs.Surveys.{survey_at}
 use Rattle.range_core.specs.declared.entry.Entry.{Entry}
-use Rattle.range_core.specs.declared.entry.Event.TheVariants.{TakeSample}
+use Rattle.range_core.specs.declared.entry.Event.TheVariants as events
 use Rattle.range_core.specs.declared.entry.Outcome.TheVariants.{Sampled}
 use Rattle.range_core.specs.declared.sample.Sample.{Sample}
 use Rattle.range_core.specs.declared.range.survey.Survey.{Survey}
@@ -24,7 +24,7 @@ returns c s =
     let claims = c.args._claims.now in
     let survey : Survey = c.survey.result in
     let sample : Sample = sample_at was change.block change.most in
-    let entry : Entry = record { caller = claims.caller; event = TakeSample change.block change.most; outcome = Sampled sample } in
+    let entry : Entry = record { caller = claims.caller; event = events.Sample change.block change.most; outcome = Sampled sample } in
     let is : survey ≡ survey_at was change.block change.most = c.survey.ensures in
     let lies = s.is_ready.may.lies in
     let L : Survey → Type 0 = λ v. LiesAt s.opening v.extent.block v.extent.length in

@@ -1,0 +1,267 @@
+//! A run of blocks is read past the page cache, inside one turn.
+ghost use Rattle.std.specs.Prelude.{◌≡◌, ℕ, ◌+◌, ◌<◌, ◌≤◌, ◌^◌, drop, length, map, All, IfErr, IfOk, MatchResult, OnErr, OnOk, vec_len};
+ghost use Rattle.std.specs.List.{prefix_len};
+ghost use Rattle.fault_device.specs.LaneView.{lane_seen};
+ghost use Rattle.fault_device.specs.Opening.{IsServed, Opening, Serves};
+ghost use Rattle.fault_device.specs.Transfer.{Tells};
+ghost use Rattle.range_core.specs.BlockTruth.{IsWholePage};
+ghost use Rattle.range_core.specs.Cells.{IsPlaced};
+ghost use Rattle.range_core.specs.DirectNows.{AreReady, AskedNow, cleared, filled_page, is_clean_home, now_length, pages_filled, without_mapped_page};
+ghost use Rattle.range_core.specs.Kinds.{is_mapped};
+ghost use Rattle.range_core.specs.OnRun.{on_run};
+ghost use Rattle.range_core.specs.Refusals.{◌orElse◌, away, dirty, first_that_stops};
+
+use super::Range;
+use crate::cell::{Cell, is_mapped_kind};
+use crate::claims::Claims;
+use crate::fault::EventFault;
+use crate::lending::Pages;
+use crate::run::run_at;
+use crate::stamps::{add_stamps, stamp_done};
+use crate::stops::{IsAway, IsDirty, first_stop};
+use fault_device::{Done, Lane};
+use io_model::Kind;
+use iob_base::{Items, Page, Tag};
+use std::alloc::Global;
+use std::mem;
+use turn_cell::Change;
+
+/// What hinders a read from the first of these blocks on.
+fn now_stop(block: u64, cells: &[Cell]) -> Option<EventFault>
+    requires { block + length cells.now < 2 ^ 64 }
+    ensures { result ≡ first_that_stops away block cells.now orElse first_that_stops dirty block cells.now }
+{
+    if let Some(fault) = first_stop(&IsAway {}, block, cells) {
+        return Some(fault);
+    }
+    first_stop(&IsDirty {}, block, cells)
+}
+
+/// Whether a block is at home and not dirty.
+fn is_clean(cell: &Cell) -> bool
+    ensures { result ≡ is_clean_home cell.now }
+{
+    if cell.away.is_some() {
+        return false;
+    }
+    !cell.dirty
+}
+
+/// How many blocks at the head of these are at home and not dirty.
+fn clean_run(cells: &[Cell]) -> usize
+    ensures { result ≡ prefix_len is_clean_home cells.now }
+{
+    cells.iter().take_while(|cell| is_clean(cell)).count()
+}
+
+/// How many blocks can be read at once from the place `at` on, of at most `most`.
+fn now_run(cells: &[Cell], at: usize, most: usize) -> usize
+    requires few { length cells.now ≤ 65536 }
+    requires within { at ≤ length cells.now }
+    ensures { result ≡ now_length (drop at cells.now) most }
+{
+    let run = run_at(cells, at, most);
+    clean_run(&cells[at..][..run])
+}
+
+/// One judgement of `n` blocks, where they are mapped.
+pub(super) fn ask<F: FnMut(u32) -> Done>(judge: &mut F, mapped: bool, n: u32) -> Result<(), Done>
+    requires { F.pre judge.old n }
+    ensures { AskedNow mapped (λ done. F.step judge.old n done judge.new) (judge.new ≡ judge.old) result }
+{
+    if !mapped {
+        return Ok(());
+    }
+    let done = judge(n);
+    if done.failed {
+        return Err(done);
+    }
+    Ok(())
+}
+
+/// A page of zeros, with the number and the length that it has. It takes no memory.
+fn clear_page(page: &mut Page, alloc: Global)
+    ensures { page.new ≡ cleared page.old }
+{
+    let mut bytes = mem::replace(&mut page.bytes, Items::new(alloc)).into_vec();
+    bytes.fill(0);
+    page.bytes = Items::from_vec(bytes);
+}
+
+/// Fills a page with what the device has of a block at home.
+fn fill_page(size: u32, cell: &Cell, page: &mut Page, alloc: Global)
+    requires placed { IsPlaced size cell.now }
+    requires home { cell.now.away ≡ None }
+    requires whole { IsWholePage size page.old }
+    ensures { page.new ≡ filled_page size cell.now page.old }
+{
+    if !is_mapped_kind(cell.kind) {
+        clear_page(page, alloc);
+        return;
+    }
+    let Some(sector) = &cell.sector else {
+        unreachable!()
+    };
+    page.bytes.copy_from_slice(sector.bytes());
+}
+
+/// Fills the first `n` pages with what the device has of the blocks from the place `low` on.
+fn fill_pages(size: u32, cells: &Vec<Cell>, low: usize, n: usize, pages: &mut [Page], alloc: Global)
+    requires cells { low + n ≤ vec_len cells.now }
+    requires pages { n ≤ length pages.old }
+    requires ready { AreReady size n (drop low cells.now.items) }
+    requires whole { All (IsWholePage size) pages.old }
+    ensures { pages.new ≡ pages_filled size n (drop low cells.now.items) pages.old }
+{
+    for i in 0..n {
+        fill_page(size, &cells[low + i], &mut pages[i], alloc);
+    }
+}
+
+/// A mapped block loses its page.
+fn drop_mapped_page(cell: &mut Cell)
+    ensures { cell.new ≡ without_mapped_page cell.old }
+{
+    if !is_mapped_kind(cell.kind) {
+        return;
+    }
+    cell.page = None;
+}
+
+/// Each mapped block of the run loses its page.
+fn drop_mapped_run(cells: &mut Vec<Cell>, low: usize, n: usize)
+    requires { low + n ≤ vec_len cells.old }
+    ensures { cells.new.items ≡ on_run without_mapped_page low n cells.old.items }
+{
+    for i in 0..n {
+        drop_mapped_page(&mut cells[low + i]);
+    }
+}
+
+impl Range {
+    ghost use Rattle.range_core.specs.DirectNows.{CanReadNow, IsServedBy, PassesNow, RefusesNow, after_direct_now, now_count};
+    ghost use Rattle.range_core.specs.Events.{page_shape};
+    ghost use Rattle.range_core.specs.RangeView.{cells_from};
+    ghost use Rattle.range_core.specs.Refusals.{direct_now_refusal};
+    ghost use Rattle.range_core.specs.Runs.{begins_mapped};
+
+    /// Reads, inside its turn and past the page cache, the longest run of one extent from `block` on that is at home and
+    /// not dirty, of at most as many blocks as there are pages. It fills the first pages, stamps these blocks and answers
+    /// their number. Mapped blocks take one judgement of the lane, and lose their pages in the cache; blocks of other
+    /// kinds read as zeros and take none. Pages keep their numbers and lengths.
+    ///
+    /// # Errors
+    ///
+    /// `Away` and `Dirty` name the first block. `NoMemory` comes before any judgement, and `Poison` exactly where the
+    /// judgement failed. All leave the range and the pages as they were.
+    pub fn direct_now(
+        &mut self,
+        by: Tag,
+        lane: &mut Lane,
+        block: u64,
+        pages: &mut Pages,
+    ) -> Result<u64, EventFault>
+        requires { CanReadNow self.old block pages.old.items }
+
+        // How far it goes, what the pages have then, and what is stamped.
+        ensures made { OnOk result (direct_now_refusal self.old block ≡ None) }
+        ensures count { IfOk result (λ n. n ≡ now_count self.old block pages.old.items) }
+        ensures read { IfOk result (λ n. pages.new.items ≡ pages_filled self.old.geometry.block_size n (cells_from self.old block) pages.old.items) }
+        ensures state { IfOk result (λ n. self.new ≡ after_direct_now self.old by block n) }
+        ensures lane { OnOk result (PassesNow (begins_mapped (cells_from self.old block))
+            (λ done. Tells (now_count self.old block pages.old.items) (lane_seen count tells lane.old) done (lane_seen count tells lane.new))
+            (lane_seen count tells lane.new ≡ lane_seen count tells lane.old)) }
+
+        // Why it is refused, and what that leaves.
+        ensures refused { IfErr result (RefusesNow (direct_now_refusal self.old block) (begins_mapped (cells_from self.old block))
+            (λ done. Tells (now_count self.old block pages.old.items) (lane_seen count tells lane.old) done (lane_seen count tells lane.new))
+            (lane_seen count tells lane.new ≡ lane_seen count tells lane.old)) }
+        ensures unchanged { OnErr result (self.new ≡ self.old) }
+        ensures unfilled { OnErr result (pages.new.items ≡ pages.old.items) }
+
+        ensures shapes { map page_shape pages.new.items ≡ map page_shape pages.old.items }
+        ensures serves { (o : Opening) → Serves o (lane_seen count tells lane.old)
+            → MatchResult result (λ _. Serves o (lane_seen count tells lane.new)) (λ e. IsServedBy o e (lane_seen count tells lane.new)) }
+    {
+        let mut judge = |n: u32| -> Done
+            requires { 0 < n }
+            ensures tells { Tells n (lane_seen count tells lane.entry.now) result (lane_seen count tells lane.exit.now) }
+            ensures serves { (o : Opening) → Serves o (lane_seen count tells lane.entry.now) → IsServed o result (lane_seen count tells lane.exit.now) }
+        { lane.judge(n) };
+        self.read_now(by, &mut judge, block, pages)
+    }
+
+    /// `direct_now`, with any judgement of so many blocks.
+    fn read_now<F: FnMut(u32) -> Done>(
+        &mut self,
+        by: Tag,
+        judge: &mut F,
+        block: u64,
+        pages: &mut Pages,
+    ) -> Result<u64, EventFault>
+        requires judge { (m : ℕ) → 0 < m → F.pre judge.old m }
+        requires can { CanReadNow self.old block pages.old.items }
+
+        // How far it goes, what the pages have then, and what is stamped.
+        ensures made { OnOk result (direct_now_refusal self.old block ≡ None) }
+        ensures count { IfOk result (λ n. n ≡ now_count self.old block pages.old.items) }
+        ensures read { IfOk result (λ n. pages.new.items ≡ pages_filled self.old.geometry.block_size n (cells_from self.old block) pages.old.items) }
+        ensures state { IfOk result (λ n. self.new ≡ after_direct_now self.old by block n) }
+        ensures judged { OnOk result (PassesNow (begins_mapped (cells_from self.old block))
+            (λ done. F.step judge.old (now_count self.old block pages.old.items) done judge.new) (judge.new ≡ judge.old)) }
+
+        // Why it is refused, and what that leaves.
+        ensures refused { IfErr result (RefusesNow (direct_now_refusal self.old block) (begins_mapped (cells_from self.old block))
+            (λ done. F.step judge.old (now_count self.old block pages.old.items) done judge.new) (judge.new ≡ judge.old)) }
+        ensures unchanged { OnErr result (self.new ≡ self.old) }
+        ensures unfilled { OnErr result (pages.new.items ≡ pages.old.items) }
+
+        ensures shapes { map page_shape pages.new.items ≡ map page_shape pages.old.items }
+    {
+        let at = (block - self.first) as usize;
+        if let Some(fault) = now_stop(block, &self.cells[at..at + 1]) {
+            return Err(fault);
+        }
+        let n = now_run(&self.cells, at, pages.len());
+        let Ok(()) = self.log.reserve(n + self.cells.len()) else {
+            return Err(EventFault::NoMemory);
+        };
+        if let Err(done) = ask(judge, is_mapped_kind(self.cells[at].kind), n as u32) {
+            return Err(EventFault::Poison { done });
+        }
+        let size = self.geometry.block_size();
+        let alloc = *self.log.allocator();
+        fill_pages(size, &self.cells, at, n, pages.as_mut_slice(), alloc);
+        drop_mapped_run(&mut self.cells, at, n);
+        add_stamps(&mut self.log, block, n, stamp_done(by));
+        Ok(n as u64)
+    }
+}
+
+/// The turn of `Range::direct_now`, with any judgement. It reads a run of blocks past the page cache, and answers the
+/// same.
+#[derive(Drop)]
+pub struct DirectNowRun<'a, F> {
+    pub by: Tag,
+    /// A judgement of so many blocks.
+    pub judge: F,
+    pub block: u64,
+    pub pages: &'a mut Pages,
+}
+
+impl<'a, F: FnMut(u32) -> Done> Change<Range> for DirectNowRun<'a, F> {
+    ghost use Rattle.range_core.specs.ClaimsView.{MayTurn};
+    ghost use Rattle.std.specs.Prelude.{ℕ, ◌<◌};
+    ghost use Rattle.range_core.specs.DirectNows.{CanReadNow};
+    ghost use Rattle.range_core.specs.DirectNowTurns.{ReadsNow};
+
+    type Out = Result<u64, EventFault>;
+
+    ghost ready = { λ change opening _ claims. MayTurn claims (((m : ℕ) → 0 < m → F.pre change.judge m) × CanReadNow opening change.block change.pages.now.items) };
+
+    ghost does = { λ change opening history before claims later after left out entry. ReadsNow F.step change opening history before claims later after left out entry };
+
+    fn apply(&mut self, value: &mut Range, _claims: &mut Claims) -> Result<u64, EventFault> {
+        value.read_now(self.by, &mut self.judge, self.block, self.pages)
+    }
+}
