@@ -69,7 +69,7 @@ outside first n b st may none = at (nat_le first b) refl (nat_lt b (first + n)) 
     at false s t u = ap (λ v. v && nat_lt b (first + n)) s
 
 -- the blocks that have bytes from one place up to another
-byte_run : (size from to : ℕ) → 0 < size → from < to → IsByteRun (run_between size from to)
+pub byte_run : (size from to : ℕ) → 0 < size → from < to → IsByteRun (run_between size from to)
 byte_run size from to some more =
     let first : ℕ = from / size in
     let last : ℕ = (to - 1) / size in

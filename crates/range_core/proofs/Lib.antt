@@ -89,3 +89,4 @@ pub mod WipeLemmas
 pub mod WipeTruth
 pub mod WrittenBackTruth
 pub mod WrittenLemmas
+pub mod WrittenStampLemmas

@@ -60,3 +60,4 @@ pub mod Tried
 pub mod TriedHistories
 pub mod TriedRefusals
 pub mod Wipes
+pub mod WrittenStamps

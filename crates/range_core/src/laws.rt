@@ -10,6 +10,7 @@ ghost use Rattle.range_core.specs.StampedChanges.{OnlyStampsChange};
 ghost use Rattle.range_core.specs.TriedHistories.{NothingAwayIsMet, OnlyLentComesBack, ReadCanHappen, RefusalsSayNothing, SectorsAreTakenOnce, StatesHinder, WriteCanHappen};
 ghost use Rattle.range_core.specs.TriedRefusals.{StaleComesFirst, AwayComesBeforeCold, WritebackHindersNoStore, WholeBlocksAreNotCold, SettledIsNotLent, DirtyIsNotReadDirectly, WornChangesNoKind, DirectLendsAreRefusedInOrder, PutsAreRefusedInOrder};
 ghost use Rattle.range_core.specs.Tried.{StoreLeavesZerosAround, WritebackMaps, FailedWritebackMakesDirty, StoreMeanwhileStaysDirty, WipeLeavesAHole, StoreStampsEachBlock, FailedWriteLandsAPrefix, FailedWriteLeavesUnwritten, FailedReadMisses, PutLeavesZerosAround};
+ghost use Rattle.range_core.specs.WrittenStamps.{WritesAreStamped};
 
 /// A block at home that a seat borrows is away on exactly that seat's claim, whatever others claim.
 pub fn loan_is_claimed()
@@ -58,6 +59,12 @@ pub fn only_writes_map()
 /// A block's content changes only by an entry that leaves a stamp on it, of a call that did its part or whose bytes landed.
 pub fn only_stamps_change()
     ensures { OnlyStampsChange }
+{}
+
+/// In each entry of a write that came about, each block that it answered has its stamp, once, and no other block has one.
+/// The stamp is done; or, of a direct write that failed, landed on a mapped block up to where it came, and else missed.
+pub fn writes_are_stamped()
+    ensures { WritesAreStamped }
 {}
 
 /// A store into a block that was never written leaves zeros around its bytes, and makes it dirty.

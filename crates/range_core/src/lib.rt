@@ -57,7 +57,7 @@ pub use laws::{
     only_stamps_change, only_what_hinders_refuses, only_writes_map, others_stay_claimed,
     own_entries_alone, put_leaves_zeros_around, refusals_have_an_order, refused_is_quiet,
     return_frees_claim, sectors_last, store_leaves_zeros_around, store_stamps_each_block,
-    unlawful_cannot_happen, wipe_leaves_a_hole, writeback_maps,
+    unlawful_cannot_happen, wipe_leaves_a_hole, writeback_maps, writes_are_stamped,
 };
 pub use lending::{Away, Held, Lender, Lent, Pages};
 pub use range::{
