@@ -1,5 +1,6 @@
 pub mod Bytes
 pub mod Filling
+pub mod FirstBytes
 pub mod KeepLemmas
 pub mod LawLemmas
 pub mod Making

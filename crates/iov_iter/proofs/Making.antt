@@ -1,7 +1,7 @@
 use Rattle.std.proofs.Common.{◌≡◌, ℕ, zero, suc, ◌+◌, ◌-◌, ◌≤◌, ◌<◌, ◌⊎◌, inl, inr, min, Bool, false, List, [], ◌∷◌, ◌++◌, length, get_or, take, drop, replicate, sum, arith, refl, sym, ap, ◌∙◌, add-one, add-zero, append_assoc, length-append}
 use Rattle.std.proofs.Math.Nat.{mod-eq_of_lt, div-eq_of_lt, div-eq-sub-div, mod-eq-sub-mod, zero-div}
 use Rattle.std.proofs.lemmas.Bool.{cases_lt}
-use Rattle.std.proofs.lemmas.List.{append-nil, map_push, length_push, length-replicate, replicate-append-replicate, take_more}
+use Rattle.std.proofs.lemmas.List.{append-nil, drop-drop, map_push, length_push, replicate-append-replicate, take-append-drop, take_more}
 use Rattle.std.proofs.lemmas.List.Concat.{flat_map-append}
 use Rattle.std.proofs.lemmas.List.Sums.{sum_by-append}
 use Rattle.iov_iter.proofs.SpotLemmas.{split_sizes}
@@ -59,21 +59,16 @@ joined_push (x ∷ l) s = ap (λ b. x.bytes ++ b) (joined_push l s) ∙ sym (app
 abbrev place : ℕ → ℕ → Bool → PagePlace
 place number size out = record { number = number; size = size; out = out }
 
--- one more page of a segment
+-- one more page of a segment of so many bytes
 pub record Added (l l' : List SlotView) (first size left n : ℕ) : Type 0 where
-  pub bytes : joined l' ++ replicate (left - n) 0 ≡ joined l ++ replicate left 0
   pub pages : places l' ++ numbered (first + length l') (page_sizes size (left - n)) ≡ places l ++ numbered (first + length l) (page_sizes size left)
   pub room : length l' + length (page_sizes size (left - n)) ≡ length l + length (page_sizes size left)
 
-pub add_more : (l : List SlotView) (s : SlotView) (first size left n : ℕ) → s.number ≡ first + length l → s.bytes ≡ replicate n 0 → s.out ≡ false → n ≡ min left size → 0 < left → 0 < size → Added l (l ++ s ∷ []) first size left n
-add_more l s first size left n number bytes home e h g =
+pub add_more : (l : List SlotView) (s : SlotView) (first size left n : ℕ) → s.number ≡ first + length l → length s.bytes ≡ n → s.out ≡ false → n ≡ min left size → 0 < left → 0 < size → Added l (l ++ s ∷ []) first size left n
+add_more l s first size left n number long home e h g =
     let step : page_sizes size left ≡ n ∷ page_sizes size (left - n) = page_sizes_step size left n g h e in
-    let long : length s.bytes ≡ n = ap length bytes ∙ length-replicate n 0 in
     let next : first + length (l ++ s ∷ []) ≡ suc (first + length l) = omega (arith, length_push l s) in
-    let all : n + (left - n) ≡ left = omega arith in
     record {
-      bytes = ap (λ b. b ++ replicate (left - n) 0) (joined_push l s) ∙ append_assoc (joined l) s.bytes (replicate (left - n) 0)
-          ∙ ap (λ b. joined l ++ b) (ap (λ b. b ++ replicate (left - n) 0) bytes ∙ replicate-append-replicate n (left - n) 0 ∙ ap (λ m. replicate m 0) all);
       pages = rw (map_push place_of l s, next, step) (append_assoc (places l) (place_of s ∷ []) (numbered (suc (first + length l)) (page_sizes size (left - n)))
           ∙ ap (λ p. places l ++ (p ∷ numbered (suc (first + length l)) (page_sizes size (left - n)))) (made s.number (length s.bytes) n (first + length l) s.out number long home));
       room = omega (arith, length_push l s, ap length step);
@@ -81,6 +76,18 @@ add_more l s first size left n number bytes home e h g =
   where
     made : (a b n k : ℕ) (o : Bool) → a ≡ k → b ≡ n → o ≡ false → place a b o ≡ place k n false
     made a b n k o e f g = rw (e, f, g) refl
+
+-- its bytes are the next ones of the segment, which are zeros or those of a list
+pub zeros_more : (l : List SlotView) (s : SlotView) (left n : ℕ) → s.bytes ≡ replicate n 0 → n ≤ left → joined (l ++ s ∷ []) ++ replicate (left - n) 0 ≡ joined l ++ replicate left 0
+zeros_more l s left n bytes h =
+    let all : n + (left - n) ≡ left = omega arith in
+    ap (λ b. b ++ replicate (left - n) 0) (joined_push l s) ∙ append_assoc (joined l) s.bytes (replicate (left - n) 0)
+    ∙ ap (λ b. joined l ++ b) (ap (λ b. b ++ replicate (left - n) 0) bytes ∙ replicate-append-replicate n (left - n) 0 ∙ ap (λ m. replicate m 0) all)
+
+pub bytes_more : (l : List SlotView) (s : SlotView) (done n : ℕ) (all : List ℕ) → s.bytes ≡ take n (drop done all) → joined (l ++ s ∷ []) ++ drop (done + n) all ≡ joined l ++ drop done all
+bytes_more l s done n all bytes =
+    ap (λ b. b ++ drop (done + n) all) (joined_push l s) ∙ append_assoc (joined l) s.bytes (drop (done + n) all)
+    ∙ ap (λ b. joined l ++ b) (ap (λ b. b ++ drop (done + n) all) bytes ∙ ap (λ d. take n (drop done all) ++ d) (sym (drop-drop n done all)) ∙ take-append-drop n (drop done all))
 
 -- one more segment
 pub sizes_more : (size : ℕ) (ls : List ℕ) (i : ℕ) → i < length ls → sizes_of size (take (i + 1) ls) ≡ sizes_of size (take i ls) ++ page_sizes size (get_or ls i 0)

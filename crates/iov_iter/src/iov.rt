@@ -8,9 +8,9 @@ ghost use Rattle.iov_iter.specs.Making.{IsPageSize, bytes_in, iov_of, lengths_of
 ghost use Rattle.iov_iter.specs.Moving.{CanPut, CanTake, after_put, after_take, kept_first, next_pages};
 ghost use Rattle.iov_iter.specs.Unaligned.{AreAligned, IsFirstUnaligned};
 
-use crate::make::zeroed_slots;
+use crate::make::{filled_slots, zeroed_slots};
 use crate::pages::{cut_after, put_run, take_run};
-use crate::pieces::{read_from, write_from};
+use crate::pieces::{first_bytes, read_from, write_from};
 use crate::slot::Slot;
 use crate::spot::spot_at;
 use iob_base::Parts;
@@ -63,10 +63,14 @@ impl IovIter {
         ensures iov { IfOk result (λ iov. iov ≡ iov_of page_size first (lengths_of segments.now) (bytes_in segments.now)) }
         ensures home { IfOk result (λ iov. AllHome iov) }
     {
+        let slots = filled_slots(alloc, page_size, first, segments)?;
         let lengths = segment_lengths(alloc, segments)?;
-        let mut iov = IovIter::zeroed(alloc, page_size, first, &lengths)?;
-        fill(&mut iov, segments);
-        Ok(iov)
+        Ok(IovIter {
+            page_size,
+            slots,
+            lengths,
+            place: 0,
+        })
     }
 
     /// Segments of zeros of these lengths. The pages are numbered from `first` on. Want of memory is
@@ -164,9 +168,7 @@ impl IovIter {
         requires home { AreHome self.now.pages 0 n }
         ensures { IfOk result (λ bytes. bytes.items ≡ take n self.now.bytes) }
     {
-        let mut bytes = vec![in alloc; 0; n as usize]?;
-        self.read_at(0, bytes.as_mut_slice());
-        Ok(bytes)
+        first_bytes(alloc, &self.slots, n as usize)
     }
 
     /// Moves the place on by `n` bytes.
@@ -229,18 +231,4 @@ fn segment_lengths(alloc: Global, segments: &[Vec<u8>]) -> Result<Vec<u64>, Allo
     ensures { IfOk result (λ lengths. lengths.items ≡ lengths_of segments.now) }
 {
     segments.iter().map(|s| s.len() as u64).collect(alloc)
-}
-
-/// Copies segments in from the start on. The place stays.
-fn fill(iov: &mut IovIter, segments: &[Vec<u8>])
-    requires within { length (bytes_in segments.now) ≤ length iov.old.bytes }
-    requires short { length iov.old.bytes < 2 ^ 64 }
-    requires home { AllHome iov.old }
-    ensures { iov.new ≡ with_bytes (put_at 0 (bytes_in segments.now) iov.old.bytes) iov.old }
-{
-    let mut at = 0;
-    for segment in segments {
-        iov.write_at(at, segment);
-        at += segment.len() as u64;
-    }
 }

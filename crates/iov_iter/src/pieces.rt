@@ -1,5 +1,5 @@
 //! Bytes move between pages and slices, piece by piece: one copy a page.
-ghost use Rattle.std.specs.Prelude.{◌≡◌, ◌+◌, ◌-◌, ◌<◌, ◌≤◌, true, ◌++◌, length, min, take, drop, slice_index, vec_len};
+ghost use Rattle.std.specs.Prelude.{◌≡◌, ◌+◌, ◌-◌, ◌<◌, ◌≤◌, true, ◌++◌, length, min, take, drop, slice_index, vec_len, IfOk};
 ghost use Rattle.iov_iter.specs.Home.{AreHome, is_home};
 ghost use Rattle.iov_iter.specs.IovView.{put_at, sizes};
 ghost use Rattle.iov_iter.specs.Slots.{joined, places};
@@ -7,6 +7,7 @@ ghost use Rattle.iov_iter.specs.Spots.{AreSome, Stands, byte_of};
 
 use crate::slot::Slot;
 use crate::spot::{Spot, spot_after};
+use std::alloc::{AllocError, Global};
 
 /// Copies the bytes from a spot on.
 pub(crate) fn read_from(slots: &Vec<Slot>, spot: Spot, into: &mut [u8])
@@ -37,6 +38,23 @@ fn read_piece(slots: &Vec<Slot>, spot: Spot, into: &mut [u8]) -> usize
     let n = into.len().min(slot.len() - spot.offset);
     slot.read(spot.offset, &mut into[..n]);
     n
+}
+
+/// A copy of the first `n` bytes. Want of memory is the only error.
+pub(crate) fn first_bytes(alloc: Global, slots: &Vec<Slot>, n: usize) -> Result<Vec<u8>, AllocError>
+    requires some { AreSome (sizes (places slots.now.items)) }
+    requires within { n ≤ length (joined slots.now.items) }
+    requires home { AreHome (places slots.now.items) 0 n }
+    ensures { IfOk result (λ bytes. bytes.items ≡ take n (joined slots.now.items)) }
+{
+    let mut bytes = Vec::with_capacity(alloc, n)?;
+    for slot in slots {
+        if bytes.len() == n {
+            return Ok(bytes);
+        }
+        slot.append(n - bytes.len(), &mut bytes)?;
+    }
+    Ok(bytes)
 }
 
 /// Writes bytes from a spot on.

@@ -1,5 +1,5 @@
 //! One page of an iov, which may be out.
-ghost use Rattle.std.specs.Prelude.{◌≡◌, ◌+◌, ◌≤◌, ◌<◌, true, false, length, take, drop, replicate, IfOk};
+ghost use Rattle.std.specs.Prelude.{◌≡◌, ◌+◌, ◌≤◌, ◌<◌, ◌++◌, true, false, length, take, drop, replicate, IfOk, OnOk};
 
 use iob_base::{Items, Page};
 use std::alloc::{AllocError, Global};
@@ -36,12 +36,30 @@ impl Slot {
         ensures home { IfOk result (λ s. s.out ≡ false) }
     {
         let bytes = vec![in alloc; 0; size]?;
-        Ok(Slot {
+        Ok(Slot::of(alloc, number, bytes))
+    }
+
+    /// A page with a copy of these bytes.
+    pub(crate) fn copied(alloc: Global, number: u64, bytes: &[u8]) -> Result<Slot, AllocError>
+        ensures number { IfOk result (λ s. s.number ≡ number) }
+        ensures bytes { IfOk result (λ s. s.bytes ≡ bytes.now) }
+        ensures home { IfOk result (λ s. s.out ≡ false) }
+    {
+        let bytes = Vec::from_slice(alloc, bytes)?;
+        Ok(Slot::of(alloc, number, bytes))
+    }
+
+    fn of(alloc: Global, number: u64, bytes: Vec<u8>) -> Slot
+        ensures number { result.number ≡ number }
+        ensures bytes { result.bytes ≡ bytes.items }
+        ensures home { result.out ≡ false }
+    {
+        Slot {
             number,
-            size,
+            size: bytes.len(),
             home: Some(bytes),
             left: Snapshot::of(&Items::new(alloc)),
-        })
+        }
     }
 
     /// How many bytes the page has.
@@ -61,6 +79,18 @@ impl Slot {
             unreachable!()
         };
         into.copy_from_slice(&bytes[at..at + into.len()]);
+    }
+
+    /// Copies the page's bytes, at most so many, to the end of a list. Want of memory is the only error.
+    pub(crate) fn append(&self, most: usize, into: &mut Vec<u8>) -> Result<(), AllocError>
+        requires { self.now.out ≡ false }
+        ensures { OnOk result (into.new.items ≡ into.old.items ++ take most self.now.bytes) }
+    {
+        let Some(bytes) = &self.home else {
+            unreachable!()
+        };
+        let n = most.min(bytes.len());
+        into.extend_from_slice(&bytes[..n])
     }
 
     /// Copies bytes into the page.

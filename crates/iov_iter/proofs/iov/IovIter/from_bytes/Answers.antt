@@ -1,30 +1,32 @@
-use Rattle.std.proofs.Common.{◌≡◌, ℕ, length, sum, replicate, arith, ap, ◌∙◌}
-use Rattle.std.proofs.lemmas.List.{length-replicate}
+use Rattle.std.proofs.Common.{List, length, sum, arith, sym, ap, ◌∙◌, subst}
+use Rattle.std.proofs.lemmas.List.{length-map}
 use Rattle.iov_iter.specs.Home.{is_home}
-use Rattle.iov_iter.specs.IovView.{IovView, put_at, with_bytes}
-use Rattle.iov_iter.specs.Making.{bytes_in, iov_of, lengths_of}
-use Rattle.iov_iter.proofs.Bytes.{length-put_at}
-use Rattle.iov_iter.proofs.Filling.{length_bytes_in, put_at_all}
+use Rattle.iov_iter.specs.IovView.{PagePlace, sizes}
+use Rattle.iov_iter.specs.Kept.{OutAreWhole}
+use Rattle.iov_iter.specs.Making.{lengths_of, sizes_of}
+use Rattle.iov_iter.proofs.Filling.{length_bytes_in, numbered_home}
+use Rattle.iov_iter.proofs.Making.{numbered_in, sizes_numbered}
+use Rattle.iov_iter.proofs.Sizes.{total_sizes}
 use Rattle.iov_iter.proofs.iov.IovIter.from_bytes.Goals as goal
 
-pub fill-requires-clause-within : goal.fill-requires-clause-within
-fill-requires-clause-within c =
-    let lens : c.deref.result.now ≡ lengths_of c.args.segments.now = c.deref.ensures.value ∙ c.in_ok-lengths.ensures in
-    omega (arith, ap (λ (v : IovView). length v.bytes) c.in_ok-iov.ensures.iov, length-replicate {A = ℕ} (sum c.deref.result.now) 0, ap sum lens, length_bytes_in c.args.segments.now)
-
-pub returns-clause-iov : goal.returns-clause-iov
-returns-clause-iov c =
-    let lens : c.deref.result.now ≡ lengths_of c.args.segments.now = c.deref.ensures.value ∙ c.in_ok-lengths.ensures in
-    let all : put_at 0 (bytes_in c.args.segments.now) (replicate {A = ℕ} (sum c.deref.result.now) 0) ≡ bytes_in c.args.segments.now =
-    put_at_all (bytes_in c.args.segments.now) (replicate {A = ℕ} (sum c.deref.result.now) 0) (omega (arith, length-replicate {A = ℕ} (sum c.deref.result.now) 0, ap sum lens, length_bytes_in c.args.segments.now)) in
-    c.fill.ensures ∙ ap (λ (v : IovView). with_bytes (put_at 0 (bytes_in c.args.segments.now) v.bytes) v) c.in_ok-iov.ensures.iov
-    ∙ ap (λ b. iov_of c.args.page_size c.args.first c.deref.result.now b) all
-    ∙ ap (λ ls. iov_of c.args.page_size c.args.first ls (bytes_in c.args.segments.now)) lens
+pub invariant_of-result : goal.invariant_of-result
+invariant_of-result c =
+    let ls = lengths_of c.args.segments.now in
+    let O : List PagePlace → Type 0 = OutAreWhole c.args.page_size in
+    record {
+      page_size = c.requires.size;
+      cut = ap sizes c.in_ok-slots.ensures.places ∙ sizes_numbered c.args.first (sizes_of c.args.page_size ls) ∙ ap (sizes_of c.args.page_size) (sym c.in_ok-lengths.ensures);
+      joined = ap length c.in_ok-slots.ensures.joined ∙ length_bytes_in c.args.segments.now ∙ ap sum (sym c.in_ok-lengths.ensures);
+      short = omega (arith, ap sum c.in_ok-lengths.ensures, c.requires.short);
+      few = omega (arith, ap length c.in_ok-lengths.ensures, length-map c.args.segments.now (λ s. length s.items), c.requires.few);
+      out = subst O (sym c.in_ok-slots.ensures.places) (numbered_in c.args.page_size c.args.first (sizes_of c.args.page_size ls));
+      within = omega arith;
+    }
 
 pub returns-clause-home : goal.returns-clause-home
 returns-clause-home c =
-    let lens : c.deref.result.now ≡ lengths_of c.args.segments.now = c.deref.ensures.value ∙ c.in_ok-lengths.ensures in
-    let long : length c.fill.new.iov.bytes ≡ length c.in_ok-iov.iov.bytes =
-    ap (λ (v : IovView). length v.bytes) c.fill.ensures ∙ length-put_at 0 (bytes_in c.args.segments.now) c.in_ok-iov.iov.bytes
-    (omega (arith, ap (λ (v : IovView). length v.bytes) c.in_ok-iov.ensures.iov, length-replicate {A = ℕ} (sum c.deref.result.now) 0, ap sum lens, length_bytes_in c.args.segments.now)) in
-    λ b low high. ap (λ (v : IovView). is_home v.pages b) c.fill.ensures ∙ c.in_ok-iov.ensures.home b low (omega (arith, high, long))
+    let ls = lengths_of c.args.segments.now in
+    λ b low high.
+    ap (λ (ps : List PagePlace). is_home ps b) c.in_ok-slots.ensures.places
+    ∙ numbered_home c.args.first (sizes_of c.args.page_size ls) b
+    (omega (arith, high, ap length c.in_ok-slots.ensures.joined, length_bytes_in c.args.segments.now, total_sizes c.args.page_size ls))
