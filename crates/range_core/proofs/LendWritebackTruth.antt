@@ -25,11 +25,11 @@ use Rattle.range_core.specs.LendWritebacks.{IsDirtyRun, IsWritable, LentDirty, M
 use Rattle.range_core.specs.declared.cell.Cell.{Cell}
 use Rattle.range_core.specs.declared.entry.Entry.{Entry}
 use Rattle.range_core.specs.declared.entry.Outcome.TheVariants.{Lending, Refused}
-use Rattle.range_core.specs.declared.fault.EventFault.{EventFault}
 use Rattle.range_core.specs.declared.fault.EventFault.TheVariants.{NoMemory}
 use Rattle.range_core.specs.declared.lending.Away.{Away}
 use Rattle.range_core.specs.declared.lending.Lender.TheVariants.{Writeback}
 use Rattle.range_core.specs.declared.lending.Lent.{Lent}
+use Rattle.range_core.specs.declared.loan_answer.LendRefused.{LendRefused}
 use Rattle.range_core.specs.declared.range.lend_writeback.LendWritebackRun.{LendWritebackRun}
 use Rattle.range_core.proofs.AfterEntry.{quiet_truth}
 use Rattle.range_core.proofs.LendReadLemmas.{mapped_pending}
@@ -166,8 +166,9 @@ module _ (opening now : RangeView) (history : List Entry) (stakes : List RangeSt
       absurd (let clean = (All-there IsUncached now.cells (low + 0) first.0 (t.dax_is_uncached dax) first.1).clean in let dirty = (run.dirty 0 first.0 run.some first.1).dirty in cc))
 
 -- what the plain event tells of a turn
-pub record DirtyClauses (now next : RangeView) (claims left : ClaimsView) (change : LendWritebackRun) (result : Result Lent EventFault) : Type 0 where
-  pub refused : IfErr result (λ e. e ≡ unwrap_or (lend_writeback_refusal now change.block) NoMemory)
+pub record DirtyClauses (now next : RangeView) (claims left : ClaimsView) (change : LendWritebackRun) (result : Result Lent LendRefused) : Type 0 where
+  pub refused : IfErr result (λ e. e.fault ≡ unwrap_or (lend_writeback_refusal now change.block) NoMemory)
+  pub list : IfErr result (λ e. e.parts ≡ [])
   pub made : OnOk result (lend_writeback_refusal now change.block ≡ None)
   pub run : OnOk result (IsDirtyRun now.cells (change.block - now.first) (write_length now change.block change.blocks))
   pub unchanged : OnErr result (next ≡ now)
@@ -177,22 +178,22 @@ pub record DirtyClauses (now next : RangeView) (claims left : ClaimsView) (chang
   pub ready : IfOk result (λ lent. CanTransfer lent.parts)
   pub claims_are : IfOk result (λ lent. TakesHold claims left lent Writeback (first_kind (cells_from now change.block)))
 
-abbrev pub DirtyDoes : RangeView → LendWritebackRun → LendWritebackRun → RangeView → RangeView → ClaimsView → ClaimsView → Result Lent EventFault → Entry → Type 0
-DirtyDoes opening change later before after claims left result entry = MatchResult result (λ lent. LentDirty opening change later before after claims left lent entry) (λ fault. RefusedDirty change later before after claims left fault entry)
+abbrev pub DirtyDoes : RangeView → LendWritebackRun → LendWritebackRun → RangeView → RangeView → ClaimsView → ClaimsView → Result Lent LendRefused → Entry → Type 0
+DirtyDoes opening change later before after claims left result entry = MatchResult result (λ lent. LentDirty opening change later before after claims left lent entry) (λ refused. RefusedDirty change later before after claims left refused entry)
 
-pub dirty_turn : (opening now next : RangeView) (history : List Entry) (stakes : List RangeStake) (number : ℕ) (claims left : ClaimsView) (made : List Entry) (change later : LendWritebackRun) (result : Result Lent EventFault) → RangeTruth opening now history stakes
-    → Works stakes number claims made → MayWrite opening claims change.block change.blocks → later ≡ change → DirtyClauses now next claims left change result
+pub dirty_turn : (opening now next : RangeView) (history : List Entry) (stakes : List RangeStake) (number : ℕ) (claims left : ClaimsView) (made : List Entry) (change later : LendWritebackRun) (result : Result Lent LendRefused) → RangeTruth opening now history stakes
+    → Works stakes number claims made → MayWrite opening claims change.block change.blocks → later ≡ record change { parts = None } → DirtyClauses now next claims left change result
     → Advanced RangeTruth (λ opened _ entry. DirtyDoes opened change later now next claims left result entry) opening next history stakes number left made
 dirty_turn opening now next history stakes number claims left made change later (Err e) t here may same c =
-    let entry : Entry = dirty_entry claims change (Refused e) in
+    let entry : Entry = dirty_entry claims change (Refused e.fault) in
     let next_is : next ≡ now = c.unchanged in
     let left_is : left ≡ claims = c.free in
     let N : RangeView → Type 0 = λ r. RangeTruth opening r (history ++ entry ∷ []) (set stakes number (Some left, made ++ entry ∷ [])) in
     let L : ClaimsView → Type 0 = λ l. RangeTruth opening now (history ++ entry ∷ []) (set stakes number (Some l, made ++ entry ∷ [])) in
     record {
       entry = entry;
-      done = record { change_is = same; fault_is = c.refused; value = next_is; claims_are = left_is; entry_is = refl };
-      holds = subst N (sym next_is) (subst L (sym left_is) (quiet_truth opening now history entry stakes number claims made t here (refused_is_quiet _ claims.caller entry.event e) tt refl));
+      done = record { change_is = same; fault_is = c.refused; list = c.list; value = next_is; claims_are = left_is; entry_is = refl };
+      holds = subst N (sym next_is) (subst L (sym left_is) (quiet_truth opening now history entry stakes number claims made t here (refused_is_quiet _ claims.caller entry.event e.fault) tt refl));
     }
 dirty_turn opening now next history stakes number claims left made change later (Ok lent) t here may same c =
     let entry : Entry = dirty_entry claims change (Lending now.tickets (write_length now change.block change.blocks)) in

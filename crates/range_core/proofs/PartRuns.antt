@@ -7,13 +7,6 @@ use Rattle.iob_base.specs.DeviceBlock.{DeviceBlock}
 use Rattle.iob_base.specs.Parting.{IsBare, bare_part, bare_parts, pages_of}
 use Rattle.iob_base.specs.declared.part.Part.{Part}
 use Rattle.range_core.specs.LendDirects.{part_zeroed, zeroed}
-use Rattle.range_core.specs.LendWritebacks.{page_copy, part_copy}
-use Rattle.range_core.specs.declared.cell.Cell.{Cell}
-
--- the pages of snapshots
-pub pages_of-copies : (cells : List Cell) → pages_of (map part_copy cells) ≡ map page_copy cells
-pages_of-copies [] = refl
-pages_of-copies (c ∷ cells) = ap (λ l. page_copy c ∷ l) (pages_of-copies cells)
 
 -- a list of pages with no block, all zeros now
 pub zeroed-bare : (parts : List Part) → All IsBare parts → map part_zeroed parts ≡ bare_parts (map zeroed (pages_of parts))

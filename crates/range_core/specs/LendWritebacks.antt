@@ -1,6 +1,5 @@
 -- What turns that write dirty blocks to the device do.
 use Rattle.std.specs.Prelude.{◌≡◌, ◌≢◌, ℕ, ◌+◌, ◌-◌, ◌^◌, ◌<◌, ◌≤◌, Bool, ◌&&◌, not, true, false, min, if◌then◌else◌, Option, Some, None, is_none, IsTrue, IsSomeAnd, List, [], ◌∷◌, length, take, drop, map, slice_get, unwrap_or}
-use Rattle.iob_base.specs.Parting.{bare_part}
 use Rattle.iob_base.specs.declared.sector.Page.{Page}
 use Rattle.fault_device.specs.Transfer.{CanTransfer}
 use Rattle.fault_device.specs.declared.lane.Done.{Done}
@@ -24,10 +23,11 @@ use Rattle.range_core.specs.declared.entry.Entry.{Entry}
 use Rattle.range_core.specs.declared.entry.Event.TheVariants.{LendWriteback, WrittenBack}
 use Rattle.range_core.specs.declared.entry.Outcome.{Outcome}
 use Rattle.range_core.specs.declared.entry.Outcome.TheVariants.{Counted, Lending, Refused}
-use Rattle.range_core.specs.declared.fault.EventFault.{EventFault}
 use Rattle.range_core.specs.declared.fault.EventFault.TheVariants.{NoMemory}
 use Rattle.range_core.specs.declared.lending.Lender.TheVariants.{Writeback}
 use Rattle.range_core.specs.declared.lending.Lent.{Lent}
+use Rattle.range_core.specs.declared.loan_answer.LendRefused.{LendRefused}
+use Rattle.range_core.specs.declared.loan_answer.Written.{Written}
 use Rattle.range_core.specs.declared.range.lend_writeback.WrittenBackRun.{WrittenBackRun}
 use Rattle.range_core.specs.declared.range.lend_writeback.LendWritebackRun.{LendWritebackRun}
 
@@ -35,6 +35,11 @@ use Rattle.range_core.specs.declared.range.lend_writeback.LendWritebackRun.{Lend
 pub record MayWrite (r : RangeView) (claims : ClaimsView) (b n : ℕ) : Type 0 where
   pub lies : LiesAt r b n
   pub free : claims.held ≡ None
+
+-- the same of a turn, which has an empty list for what is lent
+pub record ReadyToWrite (change : LendWritebackRun) (opening : RangeView) (claims : ClaimsView) : Type 0 where
+  pub may : MayWrite opening claims change.block change.blocks
+  pub list : change.parts ≡ Some []
 
 -- a dirty block is uptodate, with a whole page, and no hole
 abbrev pub IsWritable : ℕ → Cell → Type 0
@@ -74,10 +79,6 @@ copied (Some page) = cache_page page.bytes
 
 abbrev pub page_copy : Cell → Page
 page_copy c = copied c.page
-
--- the same, which goes with no block yet
-abbrev pub part_copy : Cell → Part
-part_copy c = bare_part (page_copy c)
 
 -- the range, and what is lent: the sectors of the run with snapshots of its pages
 abbrev pub lent_dirty : RangeView → ℕ → ℕ → RangeView
@@ -121,7 +122,7 @@ dirty_entry claims change outcome = record { caller = claims.caller; event = Len
 
 -- The turn lent blocks for a write, and they are blocks of the range as it was opened
 pub record LentDirty (opening : RangeView) (change later : LendWritebackRun) (before after : RangeView) (claims left : ClaimsView) (lent : Lent) (entry : Entry) : Type 0 where
-  pub change_is : later ≡ change
+  pub change_is : later ≡ record change { parts = None }
   pub made : lend_writeback_refusal before change.block ≡ None
   pub run : IsDirtyRun before.cells (change.block - before.first) (write_length before change.block change.blocks)
   pub value : after ≡ lent_dirty before change.block change.blocks
@@ -131,23 +132,25 @@ pub record LentDirty (opening : RangeView) (change later : LendWritebackRun) (be
   pub entry_is : entry ≡ dirty_entry claims change (Lending before.tickets (write_length before change.block change.blocks))
   pub lies : LiesAt opening lent.block (length lent.parts)
 
--- The turn was refused, and nothing changed
-pub record RefusedDirty (change later : LendWritebackRun) (before after : RangeView) (claims left : ClaimsView) (fault : EventFault) (entry : Entry) : Type 0 where
-  pub change_is : later ≡ change
-  pub fault_is : fault ≡ unwrap_or (lend_writeback_refusal before change.block) NoMemory
+-- The turn was refused, nothing changed, and the list came back empty
+pub record RefusedDirty (change later : LendWritebackRun) (before after : RangeView) (claims left : ClaimsView) (refused : LendRefused) (entry : Entry) : Type 0 where
+  pub change_is : later ≡ record change { parts = None }
+  pub fault_is : refused.fault ≡ unwrap_or (lend_writeback_refusal before change.block) NoMemory
+  pub list : refused.parts ≡ []
   pub value : after ≡ before
   pub claims_are : left ≡ claims
-  pub entry_is : entry ≡ dirty_entry claims change (Refused fault)
+  pub entry_is : entry ≡ dirty_entry claims change (Refused refused.fault)
 
 abbrev pub written_entry : ClaimsView → Lent → Kind → Done → ℕ → Entry
 written_entry claims back kind done n = record { caller = claims.caller; event = WrittenBack back.ticket back.block kind (length back.parts) done; outcome = Counted n }
 
--- The turn took blocks back from a write, and answered how many were written
-pub record EndedWriteback (change later : WrittenBackRun) (before after : RangeView) (claims left : ClaimsView) (n : ℕ) (entry : Entry) : Type 0 where
+-- The turn took blocks back from a write, and answered how many were written, and their list, empty
+pub record EndedWriteback (change later : WrittenBackRun) (before after : RangeView) (claims left : ClaimsView) (answer : Written) (entry : Entry) : Type 0 where
   pub back : Lent
   pub given : change.back ≡ Some back
   pub change_is : later ≡ record change { back = None }
   pub value : after ≡ written before back change.done
   pub claims_are : left ≡ released claims
-  pub count : n ≡ written_count back change.done
-  pub entry_is : entry ≡ written_entry claims back (first_kind (cells_from before back.block)) change.done n
+  pub count : answer.blocks ≡ written_count back change.done
+  pub emptied : answer.parts ≡ []
+  pub entry_is : entry ≡ written_entry claims back (first_kind (cells_from before back.block)) change.done answer.blocks

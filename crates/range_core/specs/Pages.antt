@@ -1,5 +1,5 @@
 -- Pages of the cache.
-use Rattle.std.specs.Prelude.{ℕ, List}
+use Rattle.std.specs.Prelude.{◌≡◌, ℕ, List, length}
 use Rattle.iob_base.specs.declared.sector.Page.{Page}
 use Rattle.io_model.specs.Contents.{zeros}
 
@@ -9,3 +9,8 @@ cache_page bytes = record { number = 18446744073709551615; bytes = bytes }
 
 abbrev pub zero_page : ℕ → Page
 zero_page size = cache_page (zeros size)
+
+-- a page is one of the cache, with a block's length
+pub record IsCachePage (size : ℕ) (p : Page) : Type 0 where
+  pub number : p.number ≡ 18446744073709551615
+  pub whole : length p.bytes ≡ size

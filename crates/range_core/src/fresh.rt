@@ -1,7 +1,7 @@
 //! Pages of the cache that have no bytes of a block yet.
-ghost use Rattle.std.specs.Prelude.{◌≡◌, ◌≤◌, IfOk, replicate};
-ghost use Rattle.iob_base.specs.Parting.{bare_part, pages_of};
-ghost use Rattle.range_core.specs.Pages.{zero_page};
+ghost use Rattle.std.specs.Prelude.{◌≡◌, ◌≤◌, [], All, IfOk, OnErr, OnOk, length, replicate};
+ghost use Rattle.iob_base.specs.Parting.{pages_of};
+ghost use Rattle.range_core.specs.Pages.{IsCachePage, zero_page};
 
 use iob_base::{Items, Page, Parts};
 use std::alloc::{AllocError, Global};
@@ -28,22 +28,26 @@ pub(crate) fn fresh_pages(alloc: Global, size: u32, n: usize) -> Result<Vec<Page
     Ok(pages)
 }
 
-/// A list of as many pages of zeros, whose sectors are blank. Want of memory is the only error.
-pub(crate) fn fresh_transfer(alloc: Global, size: u32, n: usize) -> Result<Parts, AllocError>
-    requires { n ≤ 16 }
-    ensures { IfOk result (λ pages. pages_of pages ≡ replicate n (zero_page size)) }
+/// Adds so many pages of the cache, with any bytes, to an empty list, whose sectors stay blank. Want of memory is the
+/// only error, and leaves the list empty.
+pub(crate) fn add_pages(
+    alloc: Global,
+    size: u32,
+    n: usize,
+    parts: &mut Parts,
+) -> Result<(), AllocError>
+    requires empty { parts.old ≡ [] }
+    requires few { n ≤ 16 }
+    ensures many { OnOk result (length (pages_of parts.new) ≡ n) }
+    ensures pages { OnOk result (All (IsCachePage size) (pages_of parts.new)) }
+    ensures none { OnErr result (parts.new ≡ []) }
 {
-    let pages = fresh_parts(alloc, size, n)?;
-    Ok(pages)
-}
-
-fn fresh_parts(alloc: Global, size: u32, n: usize) -> Result<Parts, AllocError>
-    requires { n ≤ 16 }
-    ensures { IfOk result (λ parts. parts ≡ replicate n (bare_part (zero_page size))) }
-{
-    let mut parts = Parts::new(alloc)?;
     for _ in 0..n {
-        parts.push_page(fresh_page(alloc, size)?);
+        let Ok(page) = fresh_page(alloc, size) else {
+            parts.clear();
+            return Err(AllocError);
+        };
+        parts.push_page(page);
     }
-    Ok(parts)
+    Ok(())
 }

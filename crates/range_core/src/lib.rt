@@ -5,7 +5,7 @@
 //!
 //! - `cell`: what is kept of a block, and the kinds that extents give
 //! - `lending`, `claims`: what is lent, and what a seat claims of it
-//! - `sample`, `entry`, `fault`, `direct_answer`: what events tell, what a turn is in the history, and what events are
+//! - `sample`, `entry`, `fault`, `direct_answer`, `loan_answer`: what events tell, what a turn is in the history, and what events are
 //!   refused for
 //! - `range`, `end`: the range, how it begins and ends, and its events, each in a module of its own below it
 //! - `chronicle`: the range as the value of a turn cell, and how seats are cut
@@ -31,6 +31,7 @@ mod laws;
 mod leading;
 mod lend;
 mod lending;
+mod loan_answer;
 mod merge;
 mod open;
 mod paging;
@@ -60,6 +61,7 @@ pub use laws::{
     unlawful_cannot_happen, wipe_leaves_a_hole, writeback_maps, writes_are_stamped,
 };
 pub use lending::{Away, Held, Lender, Lent, Pages};
+pub use loan_answer::{LendRefused, Written};
 pub use range::{
     AttachRun, DaxGetRun, DaxPutRun, DaxZeroRun, DirectBackRun, DirectNowRun, DropCleanRun,
     FetchRun, FillBackRun, FindDueRun, Found, LendDirectRun, LendReadRun, LendWritebackRun,

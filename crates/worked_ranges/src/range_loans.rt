@@ -1,5 +1,5 @@
 //! A caller's turns that lend blocks, and those that bring them back after a transfer.
-ghost use Rattle.std.specs.Prelude.{◌≡◌, ◌+◌, ◌<◌, ◌≤◌, Some, None, All, IfOk, OnErr, length, nat_lt};
+ghost use Rattle.std.specs.Prelude.{◌≡◌, ◌+◌, ◌<◌, ◌≤◌, [], Some, None, All, IfOk, OnErr, length, nat_lt};
 ghost use Rattle.arrayvec.specs.ArrayVec.{array_vec_len};
 ghost use Rattle.fault_device.specs.Transfer.{CanTransfer};
 ghost use Rattle.iob_base.specs.Parting.{IsBare, pages_of};
@@ -15,7 +15,7 @@ use io_model::{Extent, Kind};
 use iob_base::{Items, Op, Page, Parts, Tag};
 use range_core::{
     Direct, DirectBackRun, DirectNowRun, DirectRefused, EventFault, FillBackRun, LendDirectRun,
-    LendReadRun, LendWritebackRun, Lender, Lent, Pages, WrittenBackRun,
+    LendReadRun, LendRefused, LendWritebackRun, Lender, Lent, Pages, WrittenBackRun,
 };
 use std::alloc::{AllocError, Global};
 use std::process::Abort;
@@ -59,6 +59,16 @@ pub(crate) struct Back {
     pub(crate) done: Done,
     pub(crate) written: Option<u64>,
     pub(crate) pages: Option<Parts>,
+}
+
+// An empty list for what is lent.
+fn empty_list(alloc: Global) -> Result<Parts, EventFault>
+    ensures { IfOk result (λ parts. parts ≡ []) }
+{
+    let Ok(parts) = Parts::new(alloc) else {
+        return Err(EventFault::NoMemory);
+    };
+    Ok(parts)
 }
 
 fn page_of(alloc: Global, number: u64, fill: u8) -> Result<Page, AllocError>
@@ -152,7 +162,12 @@ impl<'a, R: Abort + Wait> Caller<'a, R> {
         self.expect_cached();
         self.expect_run(block, blocks);
         self.expect_free();
-        let mut change = LendReadRun { block, blocks };
+        let parts = empty_list(self.alloc)?;
+        let mut change = LendReadRun {
+            block,
+            blocks,
+            parts: Some(parts),
+        };
         match self.ground.cell.turn(self.rt, &mut self.seat, &mut change) {
             Ok(lent) => {
                 self.expect_loan(&lent);
@@ -160,7 +175,7 @@ impl<'a, R: Abort + Wait> Caller<'a, R> {
                 self.loan = Some((Lender::Reading, lent));
                 Ok(loan)
             }
-            Err(fault) => Err(fault),
+            Err(LendRefused { fault, parts: _ }) => Err(fault),
         }
     }
 
@@ -171,7 +186,12 @@ impl<'a, R: Abort + Wait> Caller<'a, R> {
     {
         self.expect_run(block, blocks);
         self.expect_free();
-        let mut change = LendWritebackRun { block, blocks };
+        let parts = empty_list(self.alloc)?;
+        let mut change = LendWritebackRun {
+            block,
+            blocks,
+            parts: Some(parts),
+        };
         match self.ground.cell.turn(self.rt, &mut self.seat, &mut change) {
             Ok(lent) => {
                 self.expect_loan(&lent);
@@ -179,7 +199,7 @@ impl<'a, R: Abort + Wait> Caller<'a, R> {
                 self.loan = Some((Lender::Writeback, lent));
                 Ok(loan)
             }
-            Err(fault) => Err(fault),
+            Err(LendRefused { fault, parts: _ }) => Err(fault),
         }
     }
 
@@ -268,7 +288,7 @@ impl<'a, R: Abort + Wait> Caller<'a, R> {
             back: Some(back),
             done,
         };
-        self.ground.cell.turn(self.rt, &mut self.seat, &mut change);
+        let _ = self.ground.cell.turn(self.rt, &mut self.seat, &mut change);
         done
     }
 
@@ -286,7 +306,7 @@ impl<'a, R: Abort + Wait> Caller<'a, R> {
         let written = self.ground.cell.turn(self.rt, &mut self.seat, &mut change);
         Back {
             done,
-            written: Some(written),
+            written: Some(written.blocks),
             pages: None,
         }
     }

@@ -1,5 +1,5 @@
 //! Blocks are read into the page cache.
-ghost use Rattle.std.specs.Prelude.{◌≡◌, ◌+◌, ◌≤◌, Some, drop, length, map, vec_len};
+ghost use Rattle.std.specs.Prelude.{◌≡◌, ◌+◌, ◌≤◌, [], Some, drop, length, map, vec_len};
 ghost use Rattle.iob_base.specs.Parting.{pages_of, without_page};
 ghost use Rattle.range_core.specs.LendReads.{fill_run, filled_of, fills_with, paged_of};
 ghost use Rattle.range_core.specs.OnRun.{on_each};
@@ -9,10 +9,11 @@ use super::Range;
 use crate::cell::{Cell, continues};
 use crate::claims::Claims;
 use crate::fault::EventFault;
-use crate::fresh::fresh_transfer;
+use crate::fresh::add_pages;
 use crate::leading::{Joins, leading_run, most_lent};
 use crate::lend::{bring_home, lend_blocks};
 use crate::lending::{Away, Lender, Lent};
+use crate::loan_answer::LendRefused;
 use crate::stops::{Hinders, IsAway, IsWarm, is_cold_block};
 use fault_device::Done;
 use io_model::Kind;
@@ -89,22 +90,27 @@ fn put_pages(cells: &mut Vec<Cell>, low: usize, parts: &mut [Part])
 }
 
 /// Brings the sectors of a read home, to the blocks from the place `low` on, which get its pages where it did not fail.
-fn fill_run_back(cells: &mut Vec<Cell>, low: usize, parts: Parts, failed: bool)
+/// It answers the list, empty.
+fn fill_run_back(cells: &mut Vec<Cell>, low: usize, parts: Parts, failed: bool) -> Parts
     requires { low + length parts ≤ vec_len cells.old }
-    ensures { cells.new.items ≡ on_each (filled_of failed parts) 0 low (length parts) cells.old.items }
+    ensures cells { cells.new.items ≡ on_each (filled_of failed parts) 0 low (length parts) cells.old.items }
+    ensures emptied { result ≡ [] }
 {
     let mut pages = bring_home(cells, low, parts);
     if failed {
-        return;
+        pages.clear();
+        return pages;
     }
     put_pages(cells, low, pages.as_mut_slice());
+    pages.clear();
+    pages
 }
 
 impl Range {
     ghost use Rattle.std.specs.Prelude.{◌-◌, None, Some, IfErr, IfOk, OnErr, OnOk, unwrap_or};
     ghost use Rattle.fault_device.specs.Transfer.{CanTransfer};
     ghost use Rattle.range_core.specs.ClaimsView.{released};
-    ghost use Rattle.range_core.specs.LendReads.{IsColdRun, MayFill, cold_loan, fill_length, filled, lent_cold};
+    ghost use Rattle.range_core.specs.LendReads.{IsColdLoan, IsColdRun, MayFill, fill_length, filled, lent_cold};
     ghost use Rattle.range_core.specs.Lends.{TakesHold};
     ghost use Rattle.range_core.specs.Lookups.{first_kind};
     ghost use Rattle.range_core.specs.RangeView.{LiesAt, cells_from};
@@ -127,54 +133,68 @@ impl Range {
         Ok(cold_run(&self.cells, low, most))
     }
 
-    /// Lends the sectors of blocks that are mapped, at home and not uptodate, with pages of zeros, for a read of them
-    /// into the cache: the longest run from `block` on, of at most `blocks` and at most 16, in one folio and with device
-    /// numbers that follow each other. The claims name them until `fill_back`.
+    /// Lends the sectors of blocks that are mapped, at home and not uptodate, for a read of them into the cache: the
+    /// longest run from `block` on, of at most `blocks` and at most 16, in one folio and with device numbers that follow
+    /// each other. They go out in the list that is handed in empty, each with a page of a block's length, whose bytes are
+    /// any. The claims name them until `fill_back`.
     ///
     /// # Errors
     ///
     /// `Away` where `block` is lent out, `Settled` where it is uptodate or not mapped, and `NoMemory`. Nothing has
-    /// changed then.
+    /// changed then, and the list comes back empty.
     pub fn lend_read(
         &mut self,
         claims: &mut Claims,
         block: u64,
         blocks: u64,
-    ) -> Result<Lent, EventFault>
-        requires { MayFill self.old claims.old block blocks }
-        ensures refused { IfErr result (λ e. e ≡ unwrap_or (lend_read_refusal self.old block) EventFault.NoMemory) }
+        mut parts: Parts,
+    ) -> Result<Lent, LendRefused>
+        requires may { MayFill self.old claims.old block blocks }
+        requires empty { parts ≡ [] }
+        ensures refused { IfErr result (λ e. e.fault ≡ unwrap_or (lend_read_refusal self.old block) EventFault.NoMemory) }
+        ensures list { IfErr result (λ e. e.parts ≡ []) }
         ensures made { OnOk result (lend_read_refusal self.old block ≡ None) }
         ensures unchanged { OnErr result (self.new ≡ self.old) }
         ensures free { OnErr result (claims.new ≡ claims.old) }
         ensures run { OnOk result (IsColdRun self.old.cells (block - self.old.first) (fill_length self.old block blocks)) }
         ensures state { OnOk result (self.new ≡ lent_cold self.old block blocks) }
-        ensures lent { IfOk result (λ lent. lent ≡ cold_loan self.old block blocks) }
+        ensures lent { IfOk result (IsColdLoan self.old block blocks) }
         ensures ready { IfOk result (λ lent. CanTransfer lent.parts) }
         ensures claims { IfOk result (λ lent. TakesHold claims.old claims.new lent Lender.Reading (first_kind (cells_from self.old block))) }
     {
         let low = (block - self.first) as usize;
-        let n = self.cold_blocks(block, blocks)?;
-        let alloc = *self.log.allocator();
-        let Ok(pages) = fresh_transfer(alloc, self.geometry.block_size(), n) else {
-            return Err(EventFault::NoMemory);
+        let n = match self.cold_blocks(block, blocks) {
+            Ok(n) => n,
+            Err(fault) => return Err(LendRefused { fault, parts }),
         };
         let Ok(()) = self.log.reserve(self.cells.len()) else {
-            return Err(EventFault::NoMemory);
+            return Err(LendRefused {
+                fault: EventFault::NoMemory,
+                parts,
+            });
+        };
+        let alloc = *self.log.allocator();
+        let Ok(()) = add_pages(alloc, self.geometry.block_size(), n, &mut parts) else {
+            return Err(LendRefused {
+                fault: EventFault::NoMemory,
+                parts,
+            });
         };
         let away = Away {
             ticket: self.tickets,
             lender: Lender::Reading,
         };
         self.tickets = self.tickets.wrapping_add(1);
-        Ok(lend_blocks(&mut self.cells, low, block, pages, away, claims))
+        Ok(lend_blocks(&mut self.cells, low, block, parts, away, claims))
     }
 
     /// Takes blocks back from a read of them. Where it did not fail they have its pages from now on, uptodate and clean.
-    /// Where it failed none is uptodate. It has no refusal and takes no memory.
-    pub fn fill_back(&mut self, claims: &mut Claims, back: Lent, done: Done)
+    /// Where it failed none is uptodate. It answers the list, empty. It has no refusal and takes no memory.
+    pub fn fill_back(&mut self, claims: &mut Claims, back: Lent, done: Done) -> Parts
         requires { ComesBack self.old claims.old Lender.Reading Op.Read back done }
         ensures state { self.new ≡ filled self.old back done }
         ensures claims { claims.new ≡ released claims.old }
+        ensures emptied { result ≡ [] }
     {
         let Lent {
             ticket: _,
@@ -183,34 +203,39 @@ impl Range {
         } = back;
         claims.release();
         let low = (block - self.first) as usize;
-        fill_run_back(&mut self.cells, low, parts, done.failed);
+        fill_run_back(&mut self.cells, low, parts, done.failed)
     }
 }
 
 /// The turn of `Range::lend_read`, which lends blocks for a read into the cache. It answers the same.
-#[derive(Clone, Copy)]
+#[derive(Drop)]
 pub struct LendReadRun {
     pub block: u64,
     pub blocks: u64,
+    /// An empty list for what is lent, until the turn takes it.
+    pub parts: Option<Parts>,
 }
 
 impl Change<Range> for LendReadRun {
     ghost use Rattle.range_core.specs.ClaimsView.{MayTurn};
     ghost use Rattle.std.specs.Prelude.{MatchResult};
-    ghost use Rattle.range_core.specs.LendReads.{LentCold, MayFill, RefusedCold};
+    ghost use Rattle.range_core.specs.LendReads.{LentCold, ReadyToFill, RefusedCold};
 
-    type Out = Result<Lent, EventFault>;
+    type Out = Result<Lent, LendRefused>;
 
-    ghost ready = { λ change opening _ claims. MayTurn claims (MayFill opening claims change.block change.blocks) };
+    ghost ready = { λ change opening _ claims. MayTurn claims (ReadyToFill change opening claims) };
 
-    ghost does = { λ change opening _ before claims later after left out entry. MatchResult out (λ lent. LentCold opening change later before after claims left lent entry) (λ fault. RefusedCold change later before after claims left fault entry) };
+    ghost does = { λ change opening _ before claims later after left out entry. MatchResult out (λ lent. LentCold opening change later before after claims left lent entry) (λ refused. RefusedCold change later before after claims left refused entry) };
 
-    fn apply(&mut self, value: &mut Range, claims: &mut Claims) -> Result<Lent, EventFault> {
-        value.lend_read(claims, self.block, self.blocks)
+    fn apply(&mut self, value: &mut Range, claims: &mut Claims) -> Result<Lent, LendRefused> {
+        let Some(parts) = self.parts.take() else {
+            unreachable!()
+        };
+        value.lend_read(claims, self.block, self.blocks, parts)
     }
 }
 
-/// The turn of `Range::fill_back`, which takes blocks back from a read into the cache.
+/// The turn of `Range::fill_back`, which takes blocks back from a read into the cache. It answers their list, empty.
 #[derive(Drop)]
 pub struct FillBackRun {
     /// What comes back, until the turn takes it.
@@ -225,16 +250,16 @@ impl Change<Range> for FillBackRun {
     ghost use Rattle.range_core.specs.Returning.{BringsBack};
     ghost use Rattle.range_core.specs.declared.lending.Lender.TheVariants.{Reading};
 
-    type Out = ();
+    type Out = Parts;
 
     ghost ready = { λ change opening _ claims. MayTurn claims (BringsBack opening claims Reading Read change.back change.done) };
 
-    ghost does = { λ change _ _ before claims later after left _ entry. Filled change later before after claims left entry };
+    ghost does = { λ change _ _ before claims later after left out entry. Filled change later before after claims left out entry };
 
-    fn apply(&mut self, value: &mut Range, claims: &mut Claims) {
+    fn apply(&mut self, value: &mut Range, claims: &mut Claims) -> Parts {
         let Some(back) = self.back.take() else {
             unreachable!()
         };
-        value.fill_back(claims, back, self.done);
+        value.fill_back(claims, back, self.done)
     }
 }

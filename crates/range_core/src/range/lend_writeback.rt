@@ -1,10 +1,10 @@
 //! Dirty blocks are written to the device.
-ghost use Rattle.std.specs.Prelude.{◌≡◌, ◌+◌, ◌≤◌, Some, IfOk, drop, length, map, take, vec_len};
+ghost use Rattle.std.specs.Prelude.{◌≡◌, ◌+◌, ◌≤◌, [], Some, IfOk, OnErr, OnOk, drop, if◌then◌else◌, length, map, take, vec_len};
 ghost use Rattle.iob_base.specs.Parting.{pages_of};
 ghost use Rattle.range_core.specs.Kinds.{is_unwritten};
 ghost use Rattle.range_core.specs.OnRun.{on_each, on_run};
 ghost use Rattle.range_core.specs.Refusals.{◌orElse◌, away, not_ready};
-ghost use Rattle.range_core.specs.LendWritebacks.{dirtied_cell, ended_of, page_copy, part_copy, raise, write_run};
+ghost use Rattle.range_core.specs.LendWritebacks.{dirtied_cell, ended_of, page_copy, raise, write_run};
 
 use super::Range;
 use crate::cell::{Cell, continues, is_unwritten_kind};
@@ -13,6 +13,7 @@ use crate::fault::EventFault;
 use crate::leading::{Joins, leading_run, most_lent};
 use crate::lend::{bring_home, lend_blocks, mark_run_written};
 use crate::lending::{Away, Lender, Lent};
+use crate::loan_answer::{LendRefused, Written};
 use crate::stops::{Hinders, IsAway, IsNotReady};
 use fault_device::Done;
 use io_model::Kind;
@@ -85,27 +86,29 @@ fn copy_page(alloc: Global, cell: &Cell) -> Result<Page, AllocError>
     })
 }
 
-/// A list of snapshots of the pages of `n` blocks from the place `low` on, whose sectors are blank. Want of memory is the
-/// only error.
-fn copy_pages(alloc: Global, cells: &[Cell], low: usize, n: usize) -> Result<Parts, AllocError>
+/// Adds snapshots of the pages of `n` blocks from the place `low` on to an empty list, whose sectors stay blank. Want of
+/// memory is the only error, and leaves the list empty.
+fn add_copies(
+    alloc: Global,
+    cells: &[Cell],
+    low: usize,
+    n: usize,
+    parts: &mut Parts,
+) -> Result<(), AllocError>
     requires within { low + n ≤ length cells.now }
     requires few { n ≤ 16 }
-    ensures { IfOk result (λ pages. pages_of pages ≡ map page_copy (take n (drop low cells.now))) }
+    requires empty { parts.old ≡ [] }
+    ensures copies { OnOk result (pages_of parts.new ≡ map page_copy (take n (drop low cells.now))) }
+    ensures none { OnErr result (parts.new ≡ []) }
 {
-    let pages = copy_parts(alloc, cells, low, n)?;
-    Ok(pages)
-}
-
-fn copy_parts(alloc: Global, cells: &[Cell], low: usize, n: usize) -> Result<Parts, AllocError>
-    requires within { low + n ≤ length cells.now }
-    requires few { n ≤ 16 }
-    ensures { IfOk result (λ parts. parts ≡ map part_copy (take n (drop low cells.now))) }
-{
-    let mut parts = Parts::new(alloc)?;
     for i in 0..n {
-        parts.push_page(copy_page(alloc, &cells[low + i])?);
+        let Ok(page) = copy_page(alloc, &cells[low + i]) else {
+            parts.clear();
+            return Err(AllocError);
+        };
+        parts.push_page(page);
     }
-    Ok(parts)
+    Ok(())
 }
 
 fn mark_dirty(cell: &mut Cell)
@@ -124,17 +127,28 @@ fn mark_run_dirty(cells: &mut Vec<Cell>, low: usize, n: usize)
 }
 
 /// Brings the sectors of a write home, to the blocks from the place `low` on: these are mapped where it did not fail, and
-/// dirty where it failed.
-fn write_run_back(cells: &mut Vec<Cell>, low: usize, parts: Parts, failed: bool)
+/// dirty where it failed. It answers the list, empty.
+fn write_run_back(cells: &mut Vec<Cell>, low: usize, parts: Parts, failed: bool) -> Parts
     requires { low + length parts ≤ vec_len cells.old }
-    ensures { cells.new.items ≡ on_each (ended_of failed parts) 0 low (length parts) cells.old.items }
+    ensures cells { cells.new.items ≡ on_each (ended_of failed parts) 0 low (length parts) cells.old.items }
+    ensures emptied { result ≡ [] }
 {
     let n = parts.len();
-    let _ = bring_home(cells, low, parts);
+    let mut pages = bring_home(cells, low, parts);
+    pages.clear();
     if failed {
-        return mark_run_dirty(cells, low, n);
+        mark_run_dirty(cells, low, n);
+        return pages;
     }
     mark_run_written(cells, low, n);
+    pages
+}
+
+// How many of `n` blocks were written.
+fn count_written(n: usize, failed: bool) -> u64
+    ensures { result ≡ (if failed then 0 else n) }
+{
+    if failed { 0 } else { n as u64 }
 }
 
 // By how much the cookie rises where blocks of this kind come back from a write: 1 where it maps them, else 0.
@@ -184,22 +198,26 @@ impl Range {
 
     /// Lends the sectors of blocks that are dirty and at home, with snapshots of their pages, for a write of them to the
     /// device: the longest run from `block` on, of at most `blocks` and at most 16, in one folio, all mapped or all
-    /// unwritten, and with device numbers that follow each other. The blocks are clean from now on and stay uptodate.
-    /// The claims name them until `written_back`.
+    /// unwritten, and with device numbers that follow each other. They go out in the list that is handed in empty. The
+    /// blocks are clean from now on and stay uptodate. The claims name them until `written_back`.
     ///
     /// # Errors
     ///
     /// `Away` where `block` is lent out, `Settled` where it is not dirty, `Unattached` where it has no space yet, `Worn`
-    /// where it was never written and the cookie is used up, and `NoMemory`. Nothing has changed then.
+    /// where it was never written and the cookie is used up, and `NoMemory`. Nothing has changed then, and the list comes
+    /// back empty.
     pub fn lend_writeback(
         &mut self,
         claims: &mut Claims,
         block: u64,
         blocks: u64,
-    ) -> Result<Lent, EventFault>
+        mut parts: Parts,
+    ) -> Result<Lent, LendRefused>
         requires may { MayWrite self.old claims.old block blocks }
         requires writable { All (IsWritable self.old.geometry.block_size) self.old.cells }
-        ensures refused { IfErr result (λ e. e ≡ unwrap_or (lend_writeback_refusal self.old block) EventFault.NoMemory) }
+        requires empty { parts ≡ [] }
+        ensures refused { IfErr result (λ e. e.fault ≡ unwrap_or (lend_writeback_refusal self.old block) EventFault.NoMemory) }
+        ensures list { IfErr result (λ e. e.parts ≡ []) }
         ensures made { OnOk result (lend_writeback_refusal self.old block ≡ None) }
         ensures unchanged { OnErr result (self.new ≡ self.old) }
         ensures free { OnErr result (claims.new ≡ claims.old) }
@@ -210,31 +228,41 @@ impl Range {
         ensures claims { IfOk result (λ lent. TakesHold claims.old claims.new lent Lender.Writeback (first_kind (cells_from self.old block))) }
     {
         let low = (block - self.first) as usize;
-        let n = self.dirty_blocks(block, blocks)?;
-        let alloc = *self.log.allocator();
-        let Ok(pages) = copy_pages(alloc, &self.cells, low, n) else {
-            return Err(EventFault::NoMemory);
+        let n = match self.dirty_blocks(block, blocks) {
+            Ok(n) => n,
+            Err(fault) => return Err(LendRefused { fault, parts }),
         };
         let Ok(()) = self.log.reserve(self.cells.len()) else {
-            return Err(EventFault::NoMemory);
+            return Err(LendRefused {
+                fault: EventFault::NoMemory,
+                parts,
+            });
+        };
+        let alloc = *self.log.allocator();
+        let Ok(()) = add_copies(alloc, &self.cells, low, n, &mut parts) else {
+            return Err(LendRefused {
+                fault: EventFault::NoMemory,
+                parts,
+            });
         };
         let away = Away {
             ticket: self.tickets,
             lender: Lender::Writeback,
         };
         self.tickets = self.tickets.wrapping_add(1);
-        Ok(lend_blocks(&mut self.cells, low, block, pages, away, claims))
+        Ok(lend_blocks(&mut self.cells, low, block, parts, away, claims))
     }
 
-    /// Takes blocks back from a write of them, and answers how many were written. Where the write did not fail they are
-    /// mapped, and dirty only where a store changed them meanwhile. Where it failed they are as they were and dirty, and
-    /// the count of failed writebacks rises. It has no refusal and takes no memory.
-    pub fn written_back(&mut self, claims: &mut Claims, back: Lent, done: Done) -> u64
+    /// Takes blocks back from a write of them, and answers how many were written, and their list, empty. Where the write
+    /// did not fail they are mapped, and dirty only where a store changed them meanwhile. Where it failed they are as they
+    /// were and dirty, and the count of failed writebacks rises. It has no refusal and takes no memory.
+    pub fn written_back(&mut self, claims: &mut Claims, back: Lent, done: Done) -> Written
         requires back { ComesBack self.old claims.old Lender.Writeback Op.Write back done }
         requires unspent { self.old.cookie + 1 < 2 ^ 64 }
         ensures state { self.new ≡ written self.old back done }
-        ensures count { result ≡ written_count back done }
+        ensures count { result.blocks ≡ written_count back done }
         ensures claims { claims.new ≡ released claims.old }
+        ensures emptied { result.parts ≡ [] }
     {
         let Lent {
             ticket: _,
@@ -243,39 +271,43 @@ impl Range {
         } = back;
         claims.release();
         let low = (block - self.first) as usize;
-        let n = parts.len();
+        let blocks = count_written(parts.len(), done.failed);
         self.cookie += cookie_raise(self.cells[low].kind, done.failed);
         self.errors = self.errors.saturating_add(u64::from(done.failed));
-        write_run_back(&mut self.cells, low, parts, done.failed);
-        if done.failed { 0 } else { n as u64 }
+        let parts = write_run_back(&mut self.cells, low, parts, done.failed);
+        Written { blocks, parts }
     }
 }
 
 /// The turn of `Range::lend_writeback`, which lends dirty blocks for a write. It answers the same.
-#[derive(Clone, Copy)]
+#[derive(Drop)]
 pub struct LendWritebackRun {
     pub block: u64,
     pub blocks: u64,
+    /// An empty list for what is lent, until the turn takes it.
+    pub parts: Option<Parts>,
 }
 
 impl Change<Range> for LendWritebackRun {
     ghost use Rattle.range_core.specs.ClaimsView.{MayTurn};
     ghost use Rattle.std.specs.Prelude.{MatchResult};
-    ghost use Rattle.range_core.specs.LendWritebacks.{LentDirty, MayWrite, RefusedDirty};
+    ghost use Rattle.range_core.specs.LendWritebacks.{LentDirty, ReadyToWrite, RefusedDirty};
 
-    type Out = Result<Lent, EventFault>;
+    type Out = Result<Lent, LendRefused>;
 
-    ghost ready = { λ change opening _ claims. MayTurn claims (MayWrite opening claims change.block change.blocks) };
+    ghost ready = { λ change opening _ claims. MayTurn claims (ReadyToWrite change opening claims) };
 
-    ghost does = { λ change opening _ before claims later after left out entry. MatchResult out (λ lent. LentDirty opening change later before after claims left lent entry) (λ fault. RefusedDirty change later before after claims left fault entry) };
+    ghost does = { λ change opening _ before claims later after left out entry. MatchResult out (λ lent. LentDirty opening change later before after claims left lent entry) (λ refused. RefusedDirty change later before after claims left refused entry) };
 
-    fn apply(&mut self, value: &mut Range, claims: &mut Claims) -> Result<Lent, EventFault> {
-        value.lend_writeback(claims, self.block, self.blocks)
+    fn apply(&mut self, value: &mut Range, claims: &mut Claims) -> Result<Lent, LendRefused> {
+        let Some(parts) = self.parts.take() else {
+            unreachable!()
+        };
+        value.lend_writeback(claims, self.block, self.blocks, parts)
     }
 }
 
-/// The turn of `Range::written_back`, which takes blocks back from a write of their pages. It answers how many were
-/// written.
+/// The turn of `Range::written_back`, which takes blocks back from a write of their pages. It answers the same.
 #[derive(Drop)]
 pub struct WrittenBackRun {
     /// What comes back, until the turn takes it.
@@ -290,13 +322,13 @@ impl Change<Range> for WrittenBackRun {
     ghost use Rattle.range_core.specs.LendWritebacks.{EndedWriteback};
     ghost use Rattle.range_core.specs.declared.lending.Lender.TheVariants.{Writeback};
 
-    type Out = u64;
+    type Out = Written;
 
     ghost ready = { λ change opening _ claims. MayTurn claims (BringsBack opening claims Writeback Write change.back change.done) };
 
     ghost does = { λ change _ _ before claims later after left out entry. EndedWriteback change later before after claims left out entry };
 
-    fn apply(&mut self, value: &mut Range, claims: &mut Claims) -> u64 {
+    fn apply(&mut self, value: &mut Range, claims: &mut Claims) -> Written {
         let Some(back) = self.back.take() else {
             unreachable!()
         };

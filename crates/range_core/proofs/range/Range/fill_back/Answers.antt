@@ -22,4 +22,4 @@ invariant_of-self c =
     let out : AreOut before h = subst O (sym c.self.view_is) c.requires.out in
     let f : ℕ → Cell → Cell = filled_of c.args.done.failed parts in
     let home : AllHome before h Read c.args.done.landed f = λ k x part l at. filled_home c.args.done.failed parts k x part (ap (λ ps. slice_get ps k) c.requires.is_return.parts ∙ at) in
-    returned_keeps before h Read c.args.done.landed f c.args.back c.fill_run_back.new.cells.items r.cookie r.errors _ _ c.self.invariant.0 out home (at_claim r.first _ h Read c.args.back c.args.done c.requires.is_return) c.fill_run_back.ensures c.self.invariant.1
+    returned_keeps before h Read c.args.done.landed f c.args.back c.fill_run_back.new.cells.items r.cookie r.errors _ _ c.self.invariant.0 out home (at_claim r.first _ h Read c.args.back c.args.done c.requires.is_return) c.fill_run_back.ensures.cells c.self.invariant.1

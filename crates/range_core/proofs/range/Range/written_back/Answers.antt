@@ -22,4 +22,4 @@ invariant_of-self c =
     let out : AreOut before h = subst O (sym c.self.view_is) c.requires.back.out in
     let f : ℕ → Cell → Cell = ended_of c.args.done.failed parts in
     let home : AllHome before h Write c.args.done.landed f = λ k x part l at. ended_home c.args.done.failed parts k x part (ap (λ ps. slice_get ps k) c.requires.back.is_return.parts ∙ at) in
-    returned_keeps before h Write c.args.done.landed f c.args.back c.write_run_back.new.cells.items _ _ _ _ c.self.invariant.0 out home (at_claim r.first _ h Write c.args.back c.args.done c.requires.back.is_return) c.write_run_back.ensures c.self.invariant.1
+    returned_keeps before h Write c.args.done.landed f c.args.back c.write_run_back-parts.new.cells.items _ _ _ _ c.self.invariant.0 out home (at_claim r.first _ h Write c.args.back c.args.done c.requires.back.is_return) c.write_run_back-parts.ensures.cells c.self.invariant.1

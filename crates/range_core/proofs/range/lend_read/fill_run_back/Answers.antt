@@ -15,8 +15,8 @@ put_pages-requires c =
     let same : length c.bring_home-pages.new.cells.items ≡ length c.args.cells.now.items = ap length c.bring_home-pages.ensures.cells ∙ length-on_each (home_of c.args.parts) 0 c.args.low _ c.args.cells.now.items in
     omega (arith, ap length c.as_mut_slice.ensures.value, many, same, c.requires, c.args.cells.now.ok.0, c.bring_home-pages.new.cells.ok.0)
 
-pub returns : goal.returns
-returns c =
+pub returns-clause-cells : goal.returns-clause-cells
+returns-clause-cells c =
     let pages : List Part = c.bring_home-pages.result in
     let many : length pages ≡ length c.args.parts = sym (many_pages pages) ∙ ap length c.bring_home-pages.ensures.pages ∙ many_pages c.args.parts in
     filled_back c.args.parts (pages_of pages) c.args.low (length pages) (length c.args.parts) c.args.cells.now.items c.bring_home-pages.new.cells.items c.put_pages.new.cells.items

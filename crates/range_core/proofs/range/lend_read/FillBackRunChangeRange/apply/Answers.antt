@@ -37,6 +37,6 @@ returns c s =
     let L : ClaimsView → Type 0 = λ l. RangeTruth s.opening (filled now back done) (s.history ++ entry ∷ []) (set s.stakes s.number (Some l, s.made ++ entry ∷ [])) in
     record {
       entry = entry;
-      done = record { back = back; given = given; change_is = ap (λ (b : Option Lent). record c.args.self.now { back = b }) c.take.ensures.after; value = c.fill_back.ensures.state; claims_are = c.fill_back.ensures.claims; entry_is = refl };
+      done = record { back = back; given = given; change_is = ap (λ (b : Option Lent). record c.args.self.now { back = b }) c.take.ensures.after; value = c.fill_back.ensures.state; emptied = c.fill_back.ensures.emptied; claims_are = c.fill_back.ensures.claims; entry_is = refl };
       holds = subst N (sym c.fill_back.ensures.state) (subst L (sym c.fill_back.ensures.claims) (filled_holds s.opening now s.history s.stakes s.number claims s.made back done s.stands.holds (works s.stands.here s.is_ready.own) (subst M same ready.may)));
     }

@@ -33,11 +33,11 @@ returns c s =
     let given : c.args.self.now.back ≡ Some back = sym c.take.ensures.value ∙ c.in-Some.is in
     let same : ready.back ≡ back = let both : Some ready.back ≡ Some back = sym ready.given_is ∙ given in cc in
     let M : Lent → Type 0 = λ l. MayComeBack s.opening claims Writeback Write l done in
-    let entry : Entry = written_entry claims back (first_kind (cells_from now back.block)) done c.written_back.result in
+    let entry : Entry = written_entry claims back (first_kind (cells_from now back.block)) done c.written_back.result.blocks in
     let N : RangeView → Type 0 = λ r. RangeTruth s.opening r (s.history ++ entry ∷ []) (set s.stakes s.number (Some c.written_back.new.claims, s.made ++ entry ∷ [])) in
     let L : ClaimsView → Type 0 = λ l. RangeTruth s.opening (written now back done) (s.history ++ entry ∷ []) (set s.stakes s.number (Some l, s.made ++ entry ∷ [])) in
     record {
       entry = entry;
-      done = record { back = back; count = c.written_back.ensures.count; given = given; change_is = ap (λ (b : Option Lent). record c.args.self.now { back = b }) c.take.ensures.after; value = c.written_back.ensures.state; claims_are = c.written_back.ensures.claims; entry_is = refl };
-      holds = subst N (sym c.written_back.ensures.state) (subst L (sym c.written_back.ensures.claims) (written_holds s.opening now s.history s.stakes s.number claims s.made back done c.written_back.result s.stands.holds (works s.stands.here s.is_ready.own) (subst M same ready.may)));
+      done = record { back = back; count = c.written_back.ensures.count; given = given; change_is = ap (λ (b : Option Lent). record c.args.self.now { back = b }) c.take.ensures.after; value = c.written_back.ensures.state; emptied = c.written_back.ensures.emptied; claims_are = c.written_back.ensures.claims; entry_is = refl };
+      holds = subst N (sym c.written_back.ensures.state) (subst L (sym c.written_back.ensures.claims) (written_holds s.opening now s.history s.stakes s.number claims s.made back done c.written_back.result.blocks s.stands.holds (works s.stands.here s.is_ready.own) (subst M same ready.may)));
     }
