@@ -29,7 +29,7 @@ use Rattle.iomap_replay.specs.OneRead.{blank, block_of, bytes_of, count_of, join
 use Rattle.iomap_replay.specs.Runs.{read_stamp, sector_with}
 use Rattle.iomap_replay.specs.declared.job.Job.{Job}
 use Rattle.range_core.proofs.CellLemmas.{length-cells_of, length-kinds_from}
-use Rattle.range_core.proofs.FirstTruth.{IsCold, all_cold}
+use Rattle.range_core.proofs.FirstTruth.{IsUntouched, all_cold}
 use Rattle.range_core.specs.Cells.{cells_of, cold_cell, sectors_after}
 use Rattle.range_core.specs.DirectNows.{CanReadNow, after_direct_now, is_clean_home, now_count, now_length, pages_filled, without_mapped_page}
 use Rattle.range_core.specs.Events.{with_stamps}
@@ -223,23 +223,23 @@ can_read script job r of opened =
     })
 
 -- blocks without pages lose none
-bare_run : (low n : ℕ) (cells : List Cell) → All IsCold cells → on_run without_mapped_page low n cells ≡ cells
+bare_run : (low n : ℕ) (cells : List Cell) → All IsUntouched cells → on_run without_mapped_page low n cells ≡ cells
 bare_run low n cells all = each 0 low n cells all
   where
-    same : (c : Cell) → IsCold c → without_mapped_page c ≡ c
+    same : (c : Cell) → IsUntouched c → without_mapped_page c ≡ c
     same c cold = at (is_mapped c.kind)
       where
         at : (t : Bool) → (if t then record c { page = None } else c) ≡ c
         at true = ap (λ p. record c { page = p }) (sym cold.page)
         at false = refl
 
-    each : (k low n : ℕ) (cells : List Cell) → All IsCold cells → on_each (λ _. without_mapped_page) k low n cells ≡ cells
+    each : (k low n : ℕ) (cells : List Cell) → All IsUntouched cells → on_each (λ _. without_mapped_page) k low n cells ≡ cells
     each k zero zero cells all = refl
     each k zero (suc n) [] all = refl
     each k zero (suc n) (c ∷ cells) all =
-        ap (λ x. x ∷ on_each (λ _. without_mapped_page) (suc k) zero n cells) (same c (all 0 c (omega arith))) ∙ ap (λ l. c ∷ l) (each (suc k) zero n cells (All-tail IsCold c cells all))
+        ap (λ x. x ∷ on_each (λ _. without_mapped_page) (suc k) zero n cells) (same c (all 0 c (omega arith))) ∙ ap (λ l. c ∷ l) (each (suc k) zero n cells (All-tail IsUntouched c cells all))
     each k (suc low) n [] all = refl
-    each k (suc low) n (c ∷ cells) all = ap (λ l. c ∷ l) (each k low n cells (All-tail IsCold c cells all))
+    each k (suc low) n (c ∷ cells) all = ap (λ l. c ∷ l) (each k low n cells (All-tail IsUntouched c cells all))
 
 -- the read leaves the stamps alone, where the range was just opened
 left_stamps : (script : Script) (job : Job) (r : RangeView) (b n : ℕ) → IsOpened script job r → after_direct_now r (record { caller = 0; call = 1 }) b n ≡ with_stamps r (stamps_from b n read_stamp)

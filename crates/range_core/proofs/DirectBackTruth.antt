@@ -22,7 +22,7 @@ use Rattle.range_core.specs.BlockStates.{directly_back, state_of}
 use Rattle.range_core.specs.BlockTruth.{IsLentContent, IsTrueAt}
 use Rattle.range_core.specs.Cells.{IsPlaced}
 use Rattle.range_core.specs.ClaimsView.{ClaimsView, released}
-use Rattle.range_core.specs.DirectBacks.{IsCold, KeepsPages, ReadsContents, ReadyToReturn, ReturnedDirectly, after_direct_back, back_in, came_back, kind_held, marked_back, pages_held}
+use Rattle.range_core.specs.DirectBacks.{IsNotUptodate, KeepsPages, ReadsContents, ReadyToReturn, ReturnedDirectly, after_direct_back, back_in, came_back, kind_held, marked_back, pages_held}
 use Rattle.range_core.specs.EntryCounts.{is_write_back, one_where}
 use Rattle.range_core.specs.EntryStamps.{direct_stamps}
 use Rattle.range_core.specs.Kinds.{is_mapped, is_unwritten}
@@ -315,7 +315,7 @@ module _ (opening now : RangeView) (history : List Entry) (stakes : List RangeSt
           ap (λ (x : Page). x.bytes) is ∙ moved_is ∙ subst L on_device out.lent
 
   -- the blocks are not uptodate
-  pub back_cold : (k : ℕ) (c : Cell) → k < n → slice_get next.cells (back.block - next.first + k) ≡ Some c → IsCold c
+  pub back_cold : (k : ℕ) (c : Cell) → k < n → slice_get next.cells (back.block - next.first + k) ≡ Some c → IsNotUptodate c
   back_cold k c l at =
       let low : ℕ = back.block - now.first in
       let f : ℕ → Cell → Cell = came_back op done.failed back.parts in
@@ -388,9 +388,9 @@ module _ (opening now : RangeView) (history : List Entry) (stakes : List RangeSt
       let L : ClaimsView → Type 0 = λ c. RangeTruth opening (after_direct_back now change.by change.op kind back change.done) (history ++ entry_of back ∷ []) (set stakes number (Some c, made ++ entry_of back ∷ [])) in
       let R : List Page → Type 0 = λ ps. ReadsContents opening history change.op kind back.block change.done.landed ps in
       let S : Lent → Type 0 = λ l. ReadsContents opening history change.op kind l.block change.done.landed (pages_of pages) in
-      let C : RangeView → Type 0 = λ v. (k : ℕ) (c : Cell) → k < length back.parts → slice_get v.cells (back.block - v.first + k) ≡ Some c → IsCold c in
+      let C : RangeView → Type 0 = λ v. (k : ℕ) (c : Cell) → k < length back.parts → slice_get v.cells (back.block - v.first + k) ≡ Some c → IsNotUptodate c in
       let many : length (pages_of pages) ≡ length back.parts = ap length r.pages_are ∙ length_pages back.parts in
-      let D : Lent → Type 0 = λ l. (k : ℕ) (c : Cell) → k < length (pages_of pages) → slice_get next.cells (l.block - next.first + k) ≡ Some c → IsCold c in
+      let D : Lent → Type 0 = λ l. (k : ℕ) (c : Cell) → k < length (pages_of pages) → slice_get next.cells (l.block - next.first + k) ≡ Some c → IsNotUptodate c in
       let cold : C next = subst C (sym r.state) (back_cold opening now history stakes number claims made change.by change.op back change.done t here may_return) in
       record {
         entry = e;

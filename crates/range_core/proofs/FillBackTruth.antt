@@ -12,7 +12,7 @@ use Rattle.range_core.specs.BlockStates.{read_back as state_back, state_of}
 use Rattle.range_core.specs.BlockTruth.{FitsLender, IsHomeContent, IsTrueAt}
 use Rattle.range_core.specs.Cells.{IsBlock}
 use Rattle.range_core.specs.ClaimsView.{ClaimsView, released}
-use Rattle.range_core.specs.LendReads.{fill_entry, filled, filled_cell, filled_of}
+use Rattle.range_core.specs.LendReads.{fill_entry, after_fill_back, filled_cell, filled_of}
 use Rattle.range_core.specs.Kinds.{is_mapped}
 use Rattle.range_core.specs.Loans.{ChangesSeat}
 use Rattle.range_core.specs.RangeTruth.{RangeTruth, pending}
@@ -71,7 +71,7 @@ filled_state true p c = refl
 filled_state false p c = refl
 
 pub filled_holds : (opening now : RangeView) (history : List Entry) (stakes : List RangeStake) (number : ℕ) (claims : ClaimsView) (made : List Entry) (back : Lent) (done : Done) → RangeTruth opening now history stakes
-    → Works stakes number claims made → MayComeBack opening claims Reading Read back done → RangeTruth opening (filled now back done) (history ++ fill_entry claims back done ∷ []) (set stakes number (Some (released claims), made ++ fill_entry claims back done ∷ []))
+    → Works stakes number claims made → MayComeBack opening claims Reading Read back done → RangeTruth opening (after_fill_back now back done) (history ++ fill_entry claims back done ∷ []) (set stakes number (Some (released claims), made ++ fill_entry claims back done ∷ []))
 filled_holds opening now history stakes number claims made back done truth here may =
     let size : ℕ = opening.geometry.block_size in
     let n : ℕ = length back.parts in

@@ -43,15 +43,15 @@ All-there P (y ∷ ys) zero x h e = let is : y ≡ x = cc in subst P is (h 0 y (
 All-there P (y ∷ ys) (suc i) x h e = All-there P ys i x (λ k d l. h (suc k) d (omega arith)) e
 
 -- a block without a page, at home and clean
-pub record IsCold (c : Cell) : Type 0 where
+pub record IsUntouched (c : Cell) : Type 0 where
   pub page : c.page ≡ None
   pub away : c.away ≡ None
   pub clean : c.dirty ≡ false
 
-pub all_cold : (kinds : List Kind) (sectors : List DeviceBlock) → All IsCold (cells_of kinds sectors)
-all_cold [] sectors = All-nil IsCold
+pub all_cold : (kinds : List Kind) (sectors : List DeviceBlock) → All IsUntouched (cells_of kinds sectors)
+all_cold [] sectors = All-nil IsUntouched
 all_cold (kind ∷ kinds) sectors =
-    All-cons IsCold (cell_of kind sectors) (cells_of kinds (sectors_after kind sectors)) (record { page = refl; away = refl; clean = refl }) (all_cold kinds (sectors_after kind sectors))
+    All-cons IsUntouched (cell_of kind sectors) (cells_of kinds (sectors_after kind sectors)) (record { page = refl; away = refl; clean = refl }) (all_cold kinds (sectors_after kind sectors))
 
 -- space is not only promised to a block of an extent that has space
 placed_after : (k : Kind) (i : ℕ) → IsTrue (has_space k) → is_delalloc (kind_after k i) ≡ false
@@ -97,7 +97,7 @@ no_name b zero s at more =
 no_name b (suc n) s at more = some-ne-none s (sym at)
 
 -- a block at home, clean and without a page is true of its content at the opening
-cold_is_true : (size b : ℕ) (c : Cell) → IsCold c → IsPlaced size c → IsTrueAt size b c (opening_bytes size (Some c)) ((Some first_claims, []) ∷ [])
+cold_is_true : (size b : ℕ) (c : Cell) → IsUntouched c → IsPlaced size c → IsTrueAt size b c (opening_bytes size (Some c)) ((Some first_claims, []) ∷ [])
 cold_is_true size b c cold home =
     let content : Content = opening_bytes size (Some c) in
     let away : Option Away → Type 0 = λ a. HomeContent size c content a in
@@ -194,7 +194,7 @@ first_truth geometry mode first blocks extents sectors seat space cookie can =
     let size : ℕ = geometry.block_size in
     let kinds : List Kind = kinds_from extents first blocks in
     let cells : List Cell = cells_of kinds sectors in
-    let cold : All IsCold cells = all_cold kinds sectors in
+    let cold : All IsUntouched cells = all_cold kinds sectors in
     let homes : All (IsPlaced size) cells = cells_of-home size kinds sectors can.sectors_are can.whole in
     let placed : All (λ (c : Cell). is_delalloc c.kind ≡ false) cells =
     all_placed extents first blocks sectors (λ k d l. (can.inside k d l).placed) in
@@ -208,7 +208,7 @@ first_truth geometry mode first blocks extents sectors seat space cookie can =
       pool_claims_sectors = first_space size first blocks extents sectors space cookie can;
       blocks = λ i c at.
           let T : Option Cell → Type 0 = λ o. IsTrueAt size (first + i) c (opening_bytes size o) ((Some first_claims, []) ∷ []) in
-          subst T (sym at) (cold_is_true size (first + i) c (All-there IsCold cells i c cold at) (All-there (IsPlaced size) cells i c homes at));
+          subst T (sym at) (cold_is_true size (first + i) c (All-there IsUntouched cells i c cold at) (All-there (IsPlaced size) cells i c homes at));
       states = λ i was c there here. let same : Some was ≡ Some c = sym there ∙ here in let is : c ≡ was = cc in ap state_of is;
       errors_counted = refl;
       tickets_counted = refl;

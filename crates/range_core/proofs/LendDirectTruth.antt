@@ -18,7 +18,8 @@ use Rattle.turn_cell.specs.Stakes.{Begins}
 use Rattle.range_core.specs.BlockStates.{lent_directly, state_of}
 use Rattle.range_core.specs.BlockTruth.{HomeContent, IsHomeContent, IsWholePage}
 use Rattle.range_core.specs.ClaimsView.{ClaimsView}
-use Rattle.range_core.specs.LendDirects.{CanLendDirect, ClaimsAnswer, GoesOut, ReadsZeros, ReadyToLend, TurnedToLend, after_lend_direct, away_direct, direct_answer, direct_lent, direct_loan, goes_out, lend_entry, lend_outcome, pages_in, zeroed, zeros_given, AnswerLies}
+use Rattle.range_core.specs.LendDirects.{CanLendDirect, ClaimsAnswer, GoesOut, ReadsZeros, ReadyToLend, TurnedToLend, after_lend_direct, away_direct, direct_answer, direct_lent, direct_loan, goes_out, lend_entry, lend_outcome, pages_in, zeros_given, AnswerLies}
+use Rattle.range_core.specs.Pages.{zeroed_page}
 use Rattle.range_core.specs.Kinds.{has_space, is_mapped}
 use Rattle.range_core.specs.Lends.{TakesHold, lent_cell, parts_of}
 use Rattle.range_core.specs.Loans.{ChangesSeat}
@@ -246,14 +247,14 @@ module _ (opening now : RangeView) (history : List Entry) (stakes : List RangeSt
       home.spaceless_is_zeros (ap is_mapped fresh.kind ∙ mapped-after seen.extent.kind _ ∙ unmapped op seen.extent.kind out) fresh.clean
 
   -- pages of zeros have the contents of these blocks
-  pub zeros_read : goes_out op seen.extent.kind ≡ false → (k : ℕ) (p : Page) → slice_get (map zeroed pages) k ≡ Some p → p.bytes ≡ content_at opening history (block - opening.first + k)
+  pub zeros_read : goes_out op seen.extent.kind ≡ false → (k : ℕ) (p : Page) → slice_get (map zeroed_page pages) k ≡ Some p → p.bytes ≡ content_at opening history (block - opening.first + k)
   zeros_read out k p at =
       let m = zeroed_at k pages p at in
       let l : k < length pages = slice_get_within pages k m.0 m.1.0 in
       let size : length m.0.bytes ≡ opening.geometry.block_size = All-there (IsWholePage now.geometry.block_size) pages k m.0 can.whole m.1.0 ∙ ap (λ g. g.block_size) t.same_run.geometry in
       ap (λ (x : Page). x.bytes) (sym m.1.1) ∙ ap zeros size ∙ sym (zero_content out k l)
     where
-      zeroed_at : (k : ℕ) (pages : List Page) (p : Page) → slice_get (map zeroed pages) k ≡ Some p → (q : Page) × ((slice_get pages k ≡ Some q) × (zeroed q ≡ p))
+      zeroed_at : (k : ℕ) (pages : List Page) (p : Page) → slice_get (map zeroed_page pages) k ≡ Some p → (q : Page) × ((slice_get pages k ≡ Some q) × (zeroed_page q ≡ p))
       zeroed_at k [] p e = absurd (cc)
       zeroed_at zero (q ∷ pages) p e = (q, (refl, (cc)))
       zeroed_at (suc k) (q ∷ pages) p e = zeroed_at k pages p e
@@ -334,14 +335,14 @@ module _ (opening now next : RangeView) (history seen : List Entry) (stakes : Li
       answer_lies : (u : Bool) → goes_out change.op change.seen.extent.kind ≡ u → AnswerLies opening answer
       answer_lies true out =
           let loan : Answer = LentOut (direct_loan now change.block (pages_of pages)) in
-          let is : answer ≡ loan = a.answer ∙ ap (λ u. if u then loan else Zeros (bare_parts (map zeroed (pages_of pages)))) out in
+          let is : answer ≡ loan = a.answer ∙ ap (λ u. if u then loan else Zeros (bare_parts (map zeroed_page (pages_of pages)))) out in
           let L : Answer → Type 0 = λ x. AnswerLies opening x in
           let low = can.lies.low in
           let high = can.lies.high in
           let first = t.same_run.first in
           subst L (sym is) (loan_lies opening now change.block now.tickets (pages_of pages) (direct_loan now change.block (pages_of pages)) t.same_run ready.lies.low can.lies.some (omega arith) refl)
       answer_lies false out =
-          let zeros_in : Answer = Zeros (bare_parts (map zeroed (pages_of pages))) in
+          let zeros_in : Answer = Zeros (bare_parts (map zeroed_page (pages_of pages))) in
           let is : answer ≡ zeros_in = a.answer ∙ ap (λ u. if u then LentOut (direct_loan now change.block (pages_of pages)) else zeros_in) out in
           let L : Answer → Type 0 = λ x. AnswerLies opening x in
           subst L (sym is) tt
@@ -350,7 +351,7 @@ module _ (opening now next : RangeView) (history seen : List Entry) (stakes : Li
       at free true out =
           let n : ℕ = length (pages_of pages) in
           let loan : Answer = LentOut (direct_loan now change.block (pages_of pages)) in
-          let is : answer ≡ loan = a.answer ∙ ap (λ u. if u then loan else Zeros (bare_parts (map zeroed (pages_of pages)))) out in
+          let is : answer ≡ loan = a.answer ∙ ap (λ u. if u then loan else Zeros (bare_parts (map zeroed_page (pages_of pages)))) out in
           let after : next ≡ direct_lent now change.by change.op change.block n = a.state ∙ ap (λ u. if u then direct_lent now change.by change.op change.block n else zeros_given now change.by change.block n) out in
           let H : Answer → Type 0 = λ x. ClaimsAnswer claims left change.by change.op (first_kind (cells_from now change.block)) x in
           let R : Answer → Type 0 = λ x. ReadsZeros opening history change.block x in
@@ -362,7 +363,7 @@ module _ (opening now next : RangeView) (history seen : List Entry) (stakes : Li
           )
       at free false out =
           let n : ℕ = length (pages_of pages) in
-          let zeros_in : Answer = Zeros (bare_parts (map zeroed (pages_of pages))) in
+          let zeros_in : Answer = Zeros (bare_parts (map zeroed_page (pages_of pages))) in
           let is : answer ≡ zeros_in = a.answer ∙ ap (λ u. if u then LentOut (direct_loan now change.block (pages_of pages)) else zeros_in) out in
           let after : next ≡ zeros_given now change.by change.block n = a.state ∙ ap (λ u. if u then direct_lent now change.by change.op change.block n else zeros_given now change.by change.block n) out in
           let H : Answer → Type 0 = λ x. ClaimsAnswer claims left change.by change.op (first_kind (cells_from now change.block)) x in
@@ -374,7 +375,7 @@ module _ (opening now next : RangeView) (history seen : List Entry) (stakes : Li
           let Z : List Page → Type 0 = λ ps. (k : ℕ) (p : Page) → slice_get ps k ≡ Some p → p.bytes ≡ content_at opening history (change.block - opening.first + k) in
           let same : left ≡ claims = subst H is a.claims_are in (
             subst E (sym entries) (subst N (sym after) (subst L (sym same) (zeros_truth opening now history stakes number claims made change.by change.seen change.op change.block (pages_of pages) t here can free out))),
-            subst R (sym is) (subst Z (sym (pages_of-bare (map zeroed (pages_of pages)))) (zeros_read opening now history stakes number claims made change.by change.seen change.op change.block (pages_of pages) t here can free out)),
+            subst R (sym is) (subst Z (sym (pages_of-bare (map zeroed_page (pages_of pages)))) (zeros_read opening now history stakes number claims made change.by change.seen change.op change.block (pages_of pages) t here can free out)),
           )
 
   pub turned_to_lend : (result : Result Answer DirectRefused) → DirectAnswered now next claims left change.by change.seen change.op change.block pages result → Turned result

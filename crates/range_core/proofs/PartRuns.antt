@@ -6,15 +6,16 @@ use Rattle.std.proofs.lemmas.List.Elements.{All-tail}
 use Rattle.iob_base.specs.DeviceBlock.{DeviceBlock}
 use Rattle.iob_base.specs.Parting.{IsBare, bare_part, bare_parts, pages_of}
 use Rattle.iob_base.specs.declared.part.Part.{Part}
-use Rattle.range_core.specs.LendDirects.{part_zeroed, zeroed}
+use Rattle.range_core.specs.LendDirects.{part_zeroed}
+use Rattle.range_core.specs.Pages.{zeroed_page}
 
 -- a list of pages with no block, all zeros now
-pub zeroed-bare : (parts : List Part) → All IsBare parts → map part_zeroed parts ≡ bare_parts (map zeroed (pages_of parts))
+pub zeroed-bare : (parts : List Part) → All IsBare parts → map part_zeroed parts ≡ bare_parts (map zeroed_page (pages_of parts))
 zeroed-bare [] h = refl
 zeroed-bare (p ∷ ps) h =
     let none : p.sector ≡ (bare_part p.page).sector = h 0 p (omega arith) in
-    let P : DeviceBlock → Part = λ s. record { sector = s; page = zeroed p.page } in
-    ap (λ q. q ∷ map part_zeroed ps) (ap P none) ∙ ap (λ l. bare_part (zeroed p.page) ∷ l) (zeroed-bare ps (All-tail IsBare p ps h))
+    let P : DeviceBlock → Part = λ s. record { sector = s; page = zeroed_page p.page } in
+    ap (λ q. q ∷ map part_zeroed ps) (ap P none) ∙ ap (λ l. bare_part (zeroed_page p.page) ∷ l) (zeroed-bare ps (All-tail IsBare p ps h))
 
 -- lists that agree from one place on agree in its item
 pub same_item : {X : Type 0} (xs ys : List X) (i : ℕ) (d : X) → drop i xs ≡ drop i ys → get_or xs i d ≡ get_or ys i d

@@ -13,7 +13,7 @@ use Rattle.range_core.specs.Kinds.{has_space, is_delalloc, is_mapped}
 use Rattle.range_core.specs.OnRun.{count_on, on_each}
 use Rattle.range_core.specs.Placing.{is_unused}
 use Rattle.range_core.specs.RangeTruth.{IsUncached, pending}
-use Rattle.range_core.specs.Reserves.{released}
+use Rattle.range_core.specs.Reserves.{unpromised}
 use Rattle.range_core.specs.Space.{ClaimsSpace, SpaceClaims, number_weight, promised}
 use Rattle.range_core.specs.Stakes.{RangeStake}
 use Rattle.range_core.specs.declared.cell.Cell.{Cell}
@@ -31,51 +31,51 @@ is_false true e = absurd (cc)
 is_false false e = refl
 
 -- what holds of a block as it is, and of a hole in its place, holds of it afterwards
-either_way : (P : Cell → Type 0) (c : Cell) → (is_unused c ≡ false → P c) → (is_unused c ≡ true → c.kind ≡ Delalloc → c.dirty ≡ false → P (bare c)) → P (released c)
+either_way : (P : Cell → Type 0) (c : Cell) → (is_unused c ≡ false → P c) → (is_unused c ≡ true → c.kind ≡ Delalloc → c.dirty ≡ false → P (bare c)) → P (unpromised c)
 either_way P c kept bared = at (is_unused c) refl
   where
     at : (t : Bool) → is_unused c ≡ t → P (if t then bare c else c)
     at true e = let p = and_parts (is_delalloc c.kind) (not c.dirty) e in bared e (is_kind-true c.kind Delalloc p.0) (is_false c.dirty p.1)
     at false e = kept e
 
-pub released-placed : (size : ℕ) (c : Cell) → IsPlaced size c → IsPlaced size (released c)
-released-placed size c h = either_way (IsPlaced size) c (λ _. h) (λ _ k _. let P : Kind → Type 0 = λ q. HasPlace size q c.sector c.away in subst P k h)
+pub unpromised-placed : (size : ℕ) (c : Cell) → IsPlaced size c → IsPlaced size (unpromised c)
+unpromised-placed size c h = either_way (IsPlaced size) c (λ _. h) (λ _ k _. let P : Kind → Type 0 = λ q. HasPlace size q c.sector c.away in subst P k h)
 
-pub released-gone : (c : Cell) → is_gone (released c) ≡ is_gone c
-released-gone c = either_way (λ d. is_gone d ≡ is_gone c) c (λ _. refl) (λ _ _ _. refl)
+pub unpromised-gone : (c : Cell) → is_gone (unpromised c) ≡ is_gone c
+unpromised-gone c = either_way (λ d. is_gone d ≡ is_gone c) c (λ _. refl) (λ _ _ _. refl)
 
-released-weight : (f : ℕ → ℕ) (c : Cell) → number_weight f (released c) ≡ number_weight f c
-released-weight f c = either_way (λ d. number_weight f d ≡ number_weight f c) c (λ _. refl) (λ _ k _. sym (ap (λ q. number_weight f (record c { kind = q })) k))
+unpromised-weight : (f : ℕ → ℕ) (c : Cell) → number_weight f (unpromised c) ≡ number_weight f c
+unpromised-weight f c = either_way (λ d. number_weight f d ≡ number_weight f c) c (λ _. refl) (λ _ k _. sym (ap (λ q. number_weight f (record c { kind = q })) k))
 
 -- any other block is as it was
-pub released-other : (c : Cell) → is_unused c ≡ false → released c ≡ c
-released-other c e = ap (λ t. if t then bare c else c) e
+pub unpromised-other : (c : Cell) → is_unused c ≡ false → unpromised c ≡ c
+unpromised-other c e = ap (λ t. if t then bare c else c) e
 
 none_counted : (c : Cell) → is_unused c ≡ false → one_where (is_unused c) ≡ 0
 none_counted c e = ap one_where e
 
-released-promised : (c : Cell) → promised (released c) + one_where (is_unused c) ≡ promised c + 0
-released-promised c =
+unpromised-promised : (c : Cell) → promised (unpromised c) + one_where (is_unused c) ≡ promised c + 0
+unpromised-promised c =
     either_way (λ d. promised d + one_where (is_unused c) ≡ promised c + 0) c
     (λ e. let z = none_counted c e in omega arith)
     (λ e k _. let one : one_where (is_unused c) ≡ 1 = ap one_where e in let was : promised c ≡ 1 = ap (λ q. one_where (is_delalloc q)) k in omega arith)
 
-pub released-pending : (c : Cell) → pending (released c) + one_where (is_unused c) ≡ pending c + 0
-released-pending c =
+pub unpromised-pending : (c : Cell) → pending (unpromised c) + one_where (is_unused c) ≡ pending c + 0
+unpromised-pending c =
     either_way (λ d. pending d + one_where (is_unused c) ≡ pending c + 0) c
     (λ e. let z = none_counted c e in omega arith)
     (λ e k _. let one : one_where (is_unused c) ≡ 1 = ap one_where e in let was : pending c ≡ 1 = ap (λ q. pending (record c { kind = q })) k in omega arith)
 
 -- the seat claims the space of the blocks once the promises went back
-pub space_released : (size low n : ℕ) (cells : List Cell) (space : SpaceClaims) → ClaimsSpace size cells space → ClaimsSpace size (on_each (λ _. released) 0 low n cells) (with_fewer space (count_on is_unused low n cells))
+pub space_released : (size low n : ℕ) (cells : List Cell) (space : SpaceClaims) → ClaimsSpace size cells space → ClaimsSpace size (on_each (λ _. unpromised) 0 low n cells) (with_fewer space (count_on is_unused low n cells))
 space_released size low n cells space s =
-    let f : ℕ → Cell → Cell = λ _. released in
-    let less = total-run f promised (λ c. one_where (is_unused c)) (λ _. 0) (λ _ c. released-promised c) 0 low n cells in
+    let f : ℕ → Cell → Cell = λ _. unpromised in
+    let less = total-run f promised (λ c. one_where (is_unused c)) (λ _. 0) (λ _ c. unpromised-promised c) 0 low n cells in
     let none = total-zero (λ _. 0) (take n (drop low cells)) (λ k d l. refl) in
     let counted = count_on-total is_unused low n cells in
     let had = s.reserved in
     record {
-      numbers = λ g. s.numbers g ∙ sym (total-on_each f (number_weight g) (λ _ c. released-weight g c) 0 low n cells);
+      numbers = λ g. s.numbers g ∙ sym (total-on_each f (number_weight g) (λ _ c. unpromised-weight g c) 0 low n cells);
       distinct = s.distinct;
       reserved = omega arith;
       cap = s.cap ∙ sym (length-on_each f 0 low n cells);
@@ -85,25 +85,25 @@ space_released size low n cells space s =
 -- no more are taken back than are promised
 pub unused-few : (size low n : ℕ) (cells : List Cell) (space : SpaceClaims) → ClaimsSpace size cells space → count_on is_unused low n cells ≤ space.reserved
 unused-few size low n cells space s =
-    let less = total-run (λ _. released) promised (λ c. one_where (is_unused c)) (λ _. 0) (λ _ c. released-promised c) 0 low n cells in
+    let less = total-run (λ _. unpromised) promised (λ c. one_where (is_unused c)) (λ _. 0) (λ _ c. unpromised-promised c) 0 low n cells in
     let none = total-zero (λ _. 0) (take n (drop low cells)) (λ k d l. refl) in
     let counted = count_on-total is_unused low n cells in
     let had = s.reserved in
     omega arith
 
 -- the state of a block of the run
-pub released-state : (c : Cell) (t : Bool) → t ≡ true → state_of (released c) ≡ (if t && is_unused c then becomes_hole (state_of c) else state_of c)
-released-state c t e =
+pub unpromised-state : (c : Cell) (t : Bool) → t ≡ true → state_of (unpromised c) ≡ (if t && is_unused c then becomes_hole (state_of c) else state_of c)
+unpromised-state c t e =
     either_way (λ d. state_of d ≡ (if t && is_unused c then becomes_hole (state_of c) else state_of c)) c
     (λ u. sym (ap (λ s. if s && is_unused c then becomes_hole (state_of c) else state_of c) e ∙ ap (λ s. if s then becomes_hole (state_of c) else state_of c) u))
     (λ u k clean. ap (λ d. state_of (record c { kind = Hole; page = None; dirty = d })) clean ∙ sym (ap (λ s. if s && is_unused c then becomes_hole (state_of c) else state_of c) e ∙ ap (λ s. if s then becomes_hole (state_of c) else state_of c) u))
 
-pub released-uncached : (c : Cell) → IsUncached c → IsUncached (released c)
-released-uncached c u = either_way IsUncached c (λ _. u) (λ _ _ _. record { page = refl; clean = u.clean; reserved = refl; home = u.home })
+pub unpromised-uncached : (c : Cell) → IsUncached c → IsUncached (unpromised c)
+unpromised-uncached c u = either_way IsUncached c (λ _. u) (λ _ _ _. record { page = refl; clean = u.clean; reserved = refl; home = u.home })
 
 -- a block keeps its content, which is zeros where it becomes a hole
-pub released-true : (size b : ℕ) (c : Cell) (content : Content) (stakes : List RangeStake) → IsTrueAt size b c content stakes → IsTrueAt size b (released c) content stakes
-released-true size b c content stakes t =
+pub unpromised-true : (size b : ℕ) (c : Cell) (content : Content) (stakes : List RangeStake) → IsTrueAt size b c content stakes → IsTrueAt size b (unpromised c) content stakes
+unpromised-true size b c content stakes t =
     either_way (λ d. IsTrueAt size b d content stakes) c (λ _. t)
     (λ _ k clean.
     let home : c.away ≡ None = home_of size c.kind c.sector c.away (ap has_space k) t.place in

@@ -10,7 +10,7 @@ use Rattle.range_core.specs.OnRun.{on_each}
 use Rattle.range_core.specs.Placing.{count_in, is_unused}
 use Rattle.range_core.specs.RangeTruth.{IsUncached, RangeTruth, pending}
 use Rattle.range_core.specs.RangeView.{LiesAt, RangeView, part_in}
-use Rattle.range_core.specs.Reserves.{released, unreserved_run}
+use Rattle.range_core.specs.Reserves.{unpromised, unreserved_run}
 use Rattle.range_core.specs.Stakes.{RangeStake}
 use Rattle.range_core.specs.declared.cell.Cell.{Cell}
 use Rattle.range_core.specs.declared.entry.Entry.{Entry}
@@ -23,13 +23,13 @@ use Rattle.range_core.proofs.CountLemmas.{count_on-total, on_each-unpicked, tota
 use Rattle.range_core.proofs.FirstTruth.{total-zero}
 use Rattle.range_core.proofs.KindRuns.{kinds_of}
 use Rattle.range_core.proofs.OnRunLemmas.{All-on_each}
-use Rattle.range_core.proofs.UnreserveLemmas.{released-other, released-pending, released-state, released-true, released-uncached, space_released}
+use Rattle.range_core.proofs.UnreserveLemmas.{unpromised-other, unpromised-pending, unpromised-state, unpromised-true, unpromised-uncached, space_released}
 use Rattle.range_core.proofs.SampleLemmas.{samples_next}
 use Rattle.range_core.proofs.StakeTruth.{Works}
 
 module _ (opening now : RangeView) (seat : SeatView PoolEntry) (history : List Entry) (stakes : List RangeStake) (number : ℕ) (claims : ClaimsView) (made : List Entry) (block n k : ℕ) where
   abbrev f : ℕ → Cell → Cell
-  f _ c = released c
+  f _ c = unpromised c
 
   abbrev e : Entry
   e = record { caller = claims.caller; event = Unreserve block n; outcome = Counted k }
@@ -56,11 +56,11 @@ module _ (opening now : RangeView) (seat : SeatView PoolEntry) (history : List E
           claims = kept b;
         };
         inside = λ j was content l at h. record {
-          state = released-state was _ (in_run-true block n (block + j) (omega arith) (omega arith));
-          holds = kept (block + j) (released was) content (released-true size (block + j) was content stakes h);
+          state = unpromised-state was _ (in_run-true block n (block + j) (omega arith) (omega arith));
+          holds = kept (block + j) (unpromised was) content (unpromised-true size (block + j) was content stakes h);
         };
       } in
-      let fewer = total-run f pending (λ c. one_where (is_unused c)) (λ _. 0) (λ _ c. released-pending c) 0 (block - now.first) n now.cells in
+      let fewer = total-run f pending (λ c. one_where (is_unused c)) (λ _. 0) (λ _ c. unpromised-pending c) 0 (block - now.first) n now.cells in
       let none = total-zero (λ _. 0) (take n (drop (block - now.first) now.cells)) (λ i d l. refl) in
       let many = count_on-total is_unused (block - now.first) n now.cells in
       let next_counts : CountsNext size now next e = record {
@@ -73,12 +73,12 @@ module _ (opening now : RangeView) (seat : SeatView PoolEntry) (history : List E
         cookie = ap (λ m. now.cookie + one_where (nat_lt 0 m)) (sym counted);
         log = sym (append-nil now.log);
         headroom = let h = t.cookie_has_headroom in let r = rises-few (count_in is_unused now block n) in omega arith;
-        uncached = λ d. All-on_each f IsUncached (λ _. released-uncached) 0 (block - now.first) n now.cells (t.dax_is_uncached d);
+        uncached = λ d. All-on_each f IsUncached (λ _. unpromised-uncached) 0 (block - now.first) n now.cells (t.dax_is_uncached d);
         space = space_released size (block - now.first) n now.cells now.space t.pool_claims_sectors;
         found = λ i c at. refl;
       } in
       changed_truth opening now next history e stakes number claims claims made f block n t here run next_counts
       (samples_next now next history e refl (omega arith)
-      (λ same. ap kinds_of (on_each-unpicked f is_unused (λ _ c u. released-other c u) 0 (block - now.first) n now.cells (unrisen now.cookie _ same)))
+      (λ same. ap kinds_of (on_each-unpicked f is_unused (λ _ c u. unpromised-other c u) 0 (block - now.first) n now.cells (unrisen now.cookie _ same)))
       t.samples_give_extents tt)
       (record { caller = refl; spare = refl; main = refl }) refl

@@ -83,7 +83,7 @@ ReadsContents opening history Read kind block landed pages =
 ReadsContents opening history Write kind block landed pages = Unit {0}
 
 -- a block is not uptodate
-pub record IsCold (c : Cell) : Type 0 where
+pub record IsNotUptodate (c : Cell) : Type 0 where
   pub page : c.page ≡ None
   pub clean : c.dirty ≡ false
 
@@ -98,7 +98,7 @@ back_entry claims change = record {
 pub record ReturnedDirectly (change later : DirectBackRun) (opening : RangeView) (history : List Entry) (before after : RangeView) (claims left : ClaimsView) (pages : List Part) (entry : Entry) : Type 0 where
   pub change_is : later ≡ record change { back = None }
   pub value : after ≡ after_direct_back before change.by change.op (kind_held claims.held) (back_in change) change.done
-  pub cold : (k : ℕ) (c : Cell) → k < length (pages_of pages) → slice_get after.cells ((back_in change).block - after.first + k) ≡ Some c → IsCold c
+  pub cold : (k : ℕ) (c : Cell) → k < length (pages_of pages) → slice_get after.cells ((back_in change).block - after.first + k) ≡ Some c → IsNotUptodate c
   pub claims_are : left ≡ released claims
   pub pages_are : pages_of pages ≡ map (λ p. p.page) (back_in change).parts
   pub bare : All IsBare pages

@@ -7,7 +7,7 @@ use Rattle.iob_base.specs.declared.stamp.Tag.{Tag}
 use Rattle.fault_device.specs.LaneView.{LaneView}
 use Rattle.fault_device.specs.Opening.{IsServed, Opening, Serves}
 use Rattle.fault_device.specs.declared.lane.Done.{Done}
-use Rattle.io_model.specs.Contents.{Content, zeros}
+use Rattle.io_model.specs.Contents.{Content}
 use Rattle.io_model.specs.Finals.{device_content}
 use Rattle.io_model.specs.Kinds.{mapped_number}
 use Rattle.range_core.specs.BlockTruth.{IsWholePage}
@@ -52,9 +52,6 @@ pub record IsReady (size : ℕ) (c : Cell) : Type 0 where
 
 abbrev pub filled_page : ℕ → Cell → Page → Page
 filled_page size c p = record p { bytes = stored_bytes size c }
-
-abbrev pub cleared : Page → Page
-cleared p = record p { bytes = zeros (length p.bytes) }
 
 -- blocks of which the first n are at home, with the sector of their kind
 abbrev pub AreReady : ℕ → ℕ → List Cell → Type 0

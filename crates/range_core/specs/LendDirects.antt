@@ -8,7 +8,6 @@ use Rattle.iob_base.specs.declared.stamp.Op.{Op}
 use Rattle.iob_base.specs.declared.stamp.Op.TheVariants.{Read, Write}
 use Rattle.iob_base.specs.declared.stamp.Tag.{Tag}
 use Rattle.fault_device.specs.Transfer.{CanTransfer}
-use Rattle.io_model.specs.Contents.{zeros}
 use Rattle.io_model.specs.declared.file.Kind.{Kind}
 use Rattle.range_core.specs.BlockTruth.{IsWholePage}
 use Rattle.range_core.specs.ClaimsView.{ClaimsView}
@@ -17,6 +16,7 @@ use Rattle.range_core.specs.Kinds.{has_space, is_mapped}
 use Rattle.range_core.specs.Lends.{TakesHold, lent_cell, lent_of, parts_of}
 use Rattle.range_core.specs.Lookups.{first_kind}
 use Rattle.range_core.specs.OnRun.{with_run}
+use Rattle.range_core.specs.Pages.{zeroed_page}
 use Rattle.range_core.specs.RangeTruth.{content_at}
 use Rattle.range_core.specs.RangeView.{LiesAt, RangeView, cells_from}
 use Rattle.range_core.specs.Refusals.{lend_direct_refusal}
@@ -72,12 +72,9 @@ zeros_given r by block n = with_stamps r (stamps_from block n (done_by by))
 abbrev pub after_lend_direct : RangeView → Tag → Sample → Op → ℕ → ℕ → RangeView
 after_lend_direct r by seen op block n = if goes_out op seen.extent.kind then direct_lent r by op block n else zeros_given r by block n
 
--- a page of as many zeros as it had bytes
-abbrev pub zeroed : Page → Page
-zeroed p = record p { bytes = zeros (length p.bytes) }
-
+-- a part whose page has as many zeros as it had bytes
 abbrev pub part_zeroed : Part → Part
-part_zeroed p = record p { page = zeroed p.page }
+part_zeroed p = record p { page = zeroed_page p.page }
 
 -- the sectors of the blocks from one on with these pages, in order
 abbrev pub direct_loan : RangeView → ℕ → List Page → Lent
@@ -85,7 +82,7 @@ direct_loan r block pages = lent_of r.tickets block (parts_of (cells_from r bloc
 
 abbrev pub direct_answer : RangeView → Sample → Op → ℕ → List Page → Answer
 direct_answer r seen op block pages =
-    if goes_out op seen.extent.kind then LentOut (direct_loan r block pages) else Zeros (bare_parts (map zeroed pages))
+    if goes_out op seen.extent.kind then LentOut (direct_loan r block pages) else Zeros (bare_parts (map zeroed_page pages))
 
 -- what was lent can be transferred, and its blocks are of a kind that goes out
 abbrev pub GoesOut : Op → Kind → Answer → Type 0

@@ -97,8 +97,8 @@ abbrev pub filled_of : Bool → List Part → ℕ → Cell → Cell
 filled_of failed parts k c = filled_cell failed (slice_get parts k) c
 
 -- the range after a read of these parts
-abbrev pub filled : RangeView → Lent → Done → RangeView
-filled r back done = with_each (filled_of done.failed back.parts) r back.block (length back.parts)
+abbrev pub after_fill_back : RangeView → Lent → Done → RangeView
+after_fill_back r back done = with_each (filled_of done.failed back.parts) r back.block (length back.parts)
 
 abbrev pub cold_entry : ClaimsView → LendReadRun → Outcome → Entry
 cold_entry claims change outcome = record { caller = claims.caller; event = LendRead change.block change.blocks; outcome = outcome }
@@ -132,7 +132,7 @@ pub record Filled (change later : FillBackRun) (before after : RangeView) (claim
   pub back : Lent
   pub given : change.back ≡ Some back
   pub change_is : later ≡ record change { back = None }
-  pub value : after ≡ filled before back change.done
+  pub value : after ≡ after_fill_back before back change.done
   pub emptied : parts ≡ []
   pub claims_are : left ≡ released claims
   pub entry_is : entry ≡ fill_entry claims back change.done

@@ -65,12 +65,12 @@ pub record RefusesReserve (opening : PoolView) (before : RangeView) (seen : Samp
   pub left : LeavesAlone (λ none. ReservesSomeAt opening n (Err none)) fault before after
 
 -- a block to which space was promised and that has nothing to write is a hole without a page, and any other is as it was
-abbrev pub released : Cell → Cell
-released c = if is_unused c then record c { kind = Hole; page = None } else c
+abbrev pub unpromised : Cell → Cell
+unpromised c = if is_unused c then record c { kind = Hole; page = None } else c
 
 -- a run of blocks after such promises were taken back, where the seat at the pool is this one then
 abbrev pub unreserved_run : RangeView → ℕ → ℕ → SeatView PoolEntry → RangeView
-unreserved_run r b n seat = record (with_run released r b n) { cookie = r.cookie + one_where (nat_lt 0 (count_in is_unused r b n)); seat = seat; space = with_fewer r.space (count_in is_unused r b n) }
+unreserved_run r b n seat = record (with_run unpromised r b n) { cookie = r.cookie + one_where (nat_lt 0 (count_in is_unused r b n)); seat = seat; space = with_fewer r.space (count_in is_unused r b n) }
 
 -- what a promise of space came to
 abbrev pub reserve_outcome : Result Sample EventFault → Outcome

@@ -1,7 +1,7 @@
 //! Pages of the cache that have no bytes of a block yet.
 ghost use Rattle.std.specs.Prelude.{◌≡◌, ◌≤◌, [], All, IfOk, OnErr, OnOk, length, replicate};
 ghost use Rattle.iob_base.specs.Parting.{pages_of};
-ghost use Rattle.range_core.specs.Pages.{IsCachePage, zero_page};
+ghost use Rattle.range_core.specs.Pages.{IsCachePage, zero_page, zeroed_page};
 
 use iob_base::{Items, Page, Parts};
 use std::alloc::{AllocError, Global};
@@ -50,4 +50,11 @@ pub(crate) fn add_pages(
         parts.push_page(page);
     }
     Ok(())
+}
+
+/// Makes each byte of a page zero. It takes no memory.
+pub(crate) fn zero_bytes(page: &mut Page)
+    ensures { page.new ≡ zeroed_page page.old }
+{
+    page.bytes.zero();
 }

@@ -84,7 +84,7 @@ fn count_needs<T: Needs>(test: &T, cells: &Vec<Cell>, low: usize, blocks: usize)
 
 /// Gives each of these blocks that needs one a page of zeros. Want of memory is the only error, and leaves all blocks as
 /// they were.
-pub(crate) fn fill_pages<T: Needs>(
+pub(crate) fn give_pages<T: Needs>(
     alloc: Global,
     size: u32,
     test: &T,

@@ -43,7 +43,7 @@ pub(crate) fn byte_run(geometry: &Geometry, from: u64, to: u64) -> ByteRun
 }
 
 /// What of a run lies in its k-th block, from 0.
-pub(crate) fn part_of(run: ByteRun, k: usize) -> BlockPart
+pub(crate) fn block_part(run: ByteRun, k: usize) -> BlockPart
     requires met { IsByteRun run }
     requires inside { k < run.blocks }
     ensures part { result ≡ part_at run (run.first + k) }

@@ -11,10 +11,10 @@ pub(crate) fn run_at(cells: &[Cell], at: usize, most: usize) -> usize
     requires within { at ≤ length cells.now }
     ensures { result ≡ run_length (drop at cells.now) most }
 {
-    leading_run(&cells[at..], most)
+    extent_run(&cells[at..], most)
 }
 
-fn leading_run(cells: &[Cell], most: usize) -> usize
+fn extent_run(cells: &[Cell], most: usize) -> usize
     requires { length cells.now ≤ 65536 }
     ensures { result ≡ run_length cells.now most }
 {

@@ -15,7 +15,7 @@ use crate::cell::{Cell, is_mapped_kind};
 use crate::claims::Claims;
 use crate::cookie::stale_stop;
 use crate::fault::EventFault;
-use crate::parts::{BlockPart, ByteRun, byte_run, part_of};
+use crate::parts::{BlockPart, ByteRun, block_part, byte_run};
 use crate::sample::Sample;
 use crate::stamps::{add_stamps, stamp_done};
 use fault_device::{Done, Lane};
@@ -61,7 +61,7 @@ fn copy_through(cells: &Vec<Cell>, first: u64, run: ByteRun, blank: &[u8], iov: 
 {
     let low = (run.first - first) as usize;
     for k in 0..run.blocks {
-        copy_stored(run.size, &cells[low + k], part_of(run, k), blank, iov);
+        copy_stored(run.size, &cells[low + k], block_part(run, k), blank, iov);
     }
 }
 

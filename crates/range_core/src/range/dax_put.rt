@@ -23,7 +23,7 @@ use crate::claims::Claims;
 use crate::cookie::{next_cookie, stale_stop, worn_stop};
 use crate::dax_bytes::{blank_sector, write_sector};
 use crate::fault::EventFault;
-use crate::parts::{BlockPart, ByteRun, byte_run, part_of};
+use crate::parts::{BlockPart, ByteRun, block_part, byte_run};
 use crate::place::{IsEmpty, count_run, place_run};
 use crate::sample::Sample;
 use crate::space::{reserve_at, take_at, unreserve_at};
@@ -84,7 +84,7 @@ fn put_run(cells: &mut Vec<Cell>, first: u64, run: ByteRun, iov: &mut IovIter)
 {
     let low = (run.first - first) as usize;
     for k in 0..run.blocks {
-        put_part(&mut cells[low + k], part_of(run, k), iov);
+        put_part(&mut cells[low + k], block_part(run, k), iov);
     }
 }
 

@@ -16,7 +16,7 @@ use crate::claims::Claims;
 use crate::cookie::stale_stop;
 use crate::dax_bytes::clear_sector;
 use crate::fault::EventFault;
-use crate::parts::{BlockPart, ByteRun, byte_run, part_of};
+use crate::parts::{BlockPart, ByteRun, block_part, byte_run};
 use crate::sample::Sample;
 use crate::stamps::{add_stamps, stamp_done};
 use fault_device::{Done, Lane};
@@ -48,7 +48,7 @@ fn clear_through(cells: &mut Vec<Cell>, first: u64, run: ByteRun)
 {
     let low = (run.first - first) as usize;
     for k in 0..run.blocks {
-        clear_part(&mut cells[low + k], part_of(run, k));
+        clear_part(&mut cells[low + k], block_part(run, k));
     }
 }
 

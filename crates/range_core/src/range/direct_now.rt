@@ -6,7 +6,7 @@ ghost use Rattle.fault_device.specs.Opening.{IsServed, Opening, Serves};
 ghost use Rattle.fault_device.specs.Transfer.{Tells};
 ghost use Rattle.range_core.specs.BlockTruth.{IsWholePage};
 ghost use Rattle.range_core.specs.Cells.{IsPlaced};
-ghost use Rattle.range_core.specs.DirectNows.{AreReady, AskedNow, cleared, filled_page, is_clean_home, now_length, pages_filled, without_mapped_page};
+ghost use Rattle.range_core.specs.DirectNows.{AreReady, AskedNow, filled_page, is_clean_home, now_length, pages_filled, without_mapped_page};
 ghost use Rattle.range_core.specs.Kinds.{is_mapped};
 ghost use Rattle.range_core.specs.OnRun.{on_run};
 ghost use Rattle.range_core.specs.Refusals.{◌orElse◌, away, dirty, first_that_stops};
@@ -15,15 +15,14 @@ use super::Range;
 use crate::cell::{Cell, is_mapped_kind};
 use crate::claims::Claims;
 use crate::fault::EventFault;
+use crate::fresh::zero_bytes;
 use crate::lending::Pages;
 use crate::run::run_at;
 use crate::stamps::{add_stamps, stamp_done};
 use crate::stops::{IsAway, IsDirty, first_stop};
 use fault_device::{Done, Lane};
 use io_model::Kind;
-use iob_base::{Items, Page, Tag};
-use std::alloc::Global;
-use std::mem;
+use iob_base::{Page, Tag};
 use turn_cell::Change;
 
 /// What hinders a read from the first of these blocks on.
@@ -79,24 +78,15 @@ pub(super) fn ask<F: FnMut(u32) -> Done>(judge: &mut F, mapped: bool, n: u32) ->
     Ok(())
 }
 
-/// A page of zeros, with the number and the length that it has. It takes no memory.
-fn clear_page(page: &mut Page, alloc: Global)
-    ensures { page.new ≡ cleared page.old }
-{
-    let mut bytes = mem::replace(&mut page.bytes, Items::new(alloc)).into_vec();
-    bytes.fill(0);
-    page.bytes = Items::from_vec(bytes);
-}
-
 /// Fills a page with what the device has of a block at home.
-fn fill_page(size: u32, cell: &Cell, page: &mut Page, alloc: Global)
+fn fill_page(size: u32, cell: &Cell, page: &mut Page)
     requires placed { IsPlaced size cell.now }
     requires home { cell.now.away ≡ None }
     requires whole { IsWholePage size page.old }
     ensures { page.new ≡ filled_page size cell.now page.old }
 {
     if !is_mapped_kind(cell.kind) {
-        clear_page(page, alloc);
+        zero_bytes(page);
         return;
     }
     let Some(sector) = &cell.sector else {
@@ -106,7 +96,7 @@ fn fill_page(size: u32, cell: &Cell, page: &mut Page, alloc: Global)
 }
 
 /// Fills the first `n` pages with what the device has of the blocks from the place `low` on.
-fn fill_pages(size: u32, cells: &Vec<Cell>, low: usize, n: usize, pages: &mut [Page], alloc: Global)
+fn fill_pages(size: u32, cells: &Vec<Cell>, low: usize, n: usize, pages: &mut [Page])
     requires cells { low + n ≤ vec_len cells.now }
     requires pages { n ≤ length pages.old }
     requires ready { AreReady size n (drop low cells.now.items) }
@@ -114,7 +104,7 @@ fn fill_pages(size: u32, cells: &Vec<Cell>, low: usize, n: usize, pages: &mut [P
     ensures { pages.new ≡ pages_filled size n (drop low cells.now.items) pages.old }
 {
     for i in 0..n {
-        fill_page(size, &cells[low + i], &mut pages[i], alloc);
+        fill_page(size, &cells[low + i], &mut pages[i]);
     }
 }
 
@@ -230,8 +220,7 @@ impl Range {
             return Err(EventFault::Poison { done });
         }
         let size = self.geometry.block_size();
-        let alloc = *self.log.allocator();
-        fill_pages(size, &self.cells, at, n, pages.as_mut_slice(), alloc);
+        fill_pages(size, &self.cells, at, n, pages.as_mut_slice());
         drop_mapped_run(&mut self.cells, at, n);
         add_stamps(&mut self.log, block, n, stamp_done(by));
         Ok(n as u64)

@@ -8,8 +8,8 @@ use super::Range;
 use crate::cell::Cell;
 use crate::claims::Claims;
 use crate::fault::EventFault;
-use crate::paging::{NeedsPage, fill_pages};
-use crate::parts::{BlockPart, ByteRun, byte_run, part_of};
+use crate::paging::{NeedsPage, give_pages};
+use crate::parts::{BlockPart, ByteRun, block_part, byte_run};
 use crate::stamps::{add_stamps, stamp_done};
 use crate::stops::{IsAwayWithPage, IsCold, first_stop};
 use iob_base::Tag;
@@ -37,7 +37,7 @@ fn copy_run(cells: &Vec<Cell>, first: u64, run: ByteRun, iov: &mut IovIter)
 {
     let low = (run.first - first) as usize;
     for k in 0..run.blocks {
-        copy_part(&cells[low + k], part_of(run, k), iov);
+        copy_part(&cells[low + k], block_part(run, k), iov);
     }
 }
 
@@ -73,7 +73,7 @@ impl Range {
         };
         let alloc = *self.log.allocator();
         let low = (run.first - self.first) as usize;
-        let Ok(()) = fill_pages(
+        let Ok(()) = give_pages(
             alloc,
             run.size,
             &NeedsPage {},

@@ -1,7 +1,8 @@
 //! Blocks are lent with a caller's own pages, and come back.
 ghost use Rattle.std.specs.Prelude.{◌≡◌, ◌+◌, ◌-◌, ◌<◌, ◌≤◌, ◌++◌, ◌^◌, ◌&&◌, None, All, length, map, vec_capacity, vec_len, unwrap_or, IfErr, IfOk, OnErr, OnOk};
 ghost use Rattle.range_core.specs.DirectBacks.{lands, marked_back};
-ghost use Rattle.range_core.specs.LendDirects.{goes_out, part_zeroed, zeroed};
+ghost use Rattle.range_core.specs.LendDirects.{goes_out, part_zeroed};
+ghost use Rattle.range_core.specs.Pages.{zeroed_page};
 ghost use Rattle.iob_base.specs.Parting.{IsBare, bare_parts, pages_of};
 ghost use Rattle.range_core.specs.EntryCounts.{is_write_back, one_where};
 ghost use Rattle.range_core.specs.EntryStamps.{direct_stamps, landed_by, missed_by};
@@ -15,6 +16,7 @@ use crate::claims::Claims;
 use crate::cookie::{stale_stop, worn_stop};
 use crate::direct_answer::{Direct, DirectRefused};
 use crate::fault::EventFault;
+use crate::fresh::zero_bytes;
 use crate::lend::{bring_home, lend_blocks, mark_run_written};
 use crate::lending::{Away, Lender, Lent};
 use crate::sample::Sample;
@@ -45,25 +47,24 @@ fn converts(op: Op, kind: Kind) -> bool
     }
 }
 
-/// The page of a part gets as many zeros as it has bytes.
-fn zero_page(part: &mut Part)
+fn zero_part(part: &mut Part)
     ensures { part.new ≡ part_zeroed part.old }
 {
-    part.page.bytes.zero();
+    zero_bytes(&mut part.page);
 }
 
 fn zero_run(parts: &mut [Part])
     ensures { parts.new ≡ map part_zeroed parts.old }
 {
     for part in parts.iter_mut() {
-        zero_page(part);
+        zero_part(part);
     }
 }
 
 /// The list, whose pages are each of as many zeros.
 fn zero_pages(mut pages: Parts) -> Parts
     requires { All IsBare pages }
-    ensures { result ≡ bare_parts (map zeroed (pages_of pages)) }
+    ensures { result ≡ bare_parts (map zeroed_page (pages_of pages)) }
 {
     zero_run(pages.as_mut_slice());
     pages

@@ -110,7 +110,7 @@ impl Range {
     ghost use Rattle.std.specs.Prelude.{◌-◌, None, Some, IfErr, IfOk, OnErr, OnOk, unwrap_or};
     ghost use Rattle.fault_device.specs.Transfer.{CanTransfer};
     ghost use Rattle.range_core.specs.ClaimsView.{released};
-    ghost use Rattle.range_core.specs.LendReads.{IsColdLoan, IsColdRun, MayFill, fill_length, filled, lent_cold};
+    ghost use Rattle.range_core.specs.LendReads.{IsColdLoan, IsColdRun, MayFill, fill_length, after_fill_back, lent_cold};
     ghost use Rattle.range_core.specs.Lends.{TakesHold};
     ghost use Rattle.range_core.specs.Lookups.{first_kind};
     ghost use Rattle.range_core.specs.RangeView.{LiesAt, cells_from};
@@ -192,7 +192,7 @@ impl Range {
     /// Where it failed none is uptodate. It answers the list, empty. It has no refusal and takes no memory.
     pub fn fill_back(&mut self, claims: &mut Claims, back: Lent, done: Done) -> Parts
         requires { ComesBack self.old claims.old Lender.Reading Op.Read back done }
-        ensures state { self.new ≡ filled self.old back done }
+        ensures state { self.new ≡ after_fill_back self.old back done }
         ensures claims { claims.new ≡ released claims.old }
         ensures emptied { result ≡ [] }
     {

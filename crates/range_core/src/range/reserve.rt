@@ -2,7 +2,7 @@
 ghost use Rattle.std.specs.Prelude.{◌≡◌, ◌<◌, ◌≤◌, ◌+◌, ◌^◌, IfErr, IfOk, vec_len};
 ghost use Rattle.range_core.specs.OnRun.{on_run};
 ghost use Rattle.range_core.specs.Placing.{is_unused};
-ghost use Rattle.range_core.specs.Reserves.{promised_cell, released};
+ghost use Rattle.range_core.specs.Reserves.{promised_cell, unpromised};
 
 use super::Range;
 use crate::cell::Cell;
@@ -35,7 +35,7 @@ fn promise_run(cells: &mut Vec<Cell>, low: usize, blocks: usize)
 
 // A promise of space is taken back from a block that has nothing to write.
 fn release(cell: &mut Cell)
-    ensures { cell.new ≡ released cell.old }
+    ensures { cell.new ≡ unpromised cell.old }
 {
     let unused = &IsUnused {};
     if unused.is_picked(cell) {
@@ -46,7 +46,7 @@ fn release(cell: &mut Cell)
 
 fn release_run(cells: &mut Vec<Cell>, low: usize, blocks: usize)
     requires { low + blocks ≤ vec_len cells.old }
-    ensures { cells.new.items ≡ on_run released low blocks cells.old.items }
+    ensures { cells.new.items ≡ on_run unpromised low blocks cells.old.items }
 {
     for i in 0..blocks {
         release(&mut cells[low + i]);

@@ -11,8 +11,8 @@ use crate::cell::Cell;
 use crate::claims::Claims;
 use crate::cookie::stale_stop;
 use crate::fault::EventFault;
-use crate::paging::{NeedsPage, fill_pages};
-use crate::parts::{BlockPart, ByteRun, byte_run, is_in_part, part_of};
+use crate::paging::{NeedsPage, give_pages};
+use crate::parts::{BlockPart, ByteRun, block_part, byte_run, is_in_part};
 use crate::sample::Sample;
 use crate::stamps::{add_stamps, stamp_done};
 use crate::stops::{Hinders, IsAwayWithPage, first_stop, is_cold_block};
@@ -82,7 +82,7 @@ fn store_run(cells: &mut Vec<Cell>, first: u64, run: ByteRun, iov: &mut IovIter)
 {
     let low = (run.first - first) as usize;
     for k in 0..run.blocks {
-        store_part(&mut cells[low + k], part_of(run, k), iov);
+        store_part(&mut cells[low + k], block_part(run, k), iov);
     }
 }
 
@@ -121,7 +121,7 @@ impl Range {
         };
         let alloc = *self.log.allocator();
         let low = (run.first - self.first) as usize;
-        let Ok(()) = fill_pages(
+        let Ok(()) = give_pages(
             alloc,
             run.size,
             &NeedsPage {},

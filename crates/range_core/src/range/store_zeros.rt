@@ -11,8 +11,8 @@ use super::Range;
 use crate::cell::Cell;
 use crate::claims::Claims;
 use crate::fault::EventFault;
-use crate::paging::{NeedsPageForZeros, fill_pages, is_zero};
-use crate::parts::{BlockPart, ByteRun, byte_run, part_of};
+use crate::paging::{NeedsPageForZeros, give_pages, is_zero};
+use crate::parts::{BlockPart, ByteRun, block_part, byte_run};
 use crate::sample::Sample;
 use crate::stamps::{add_stamps, stamp_done};
 use iob_base::{Items, Page, Tag};
@@ -54,7 +54,7 @@ fn clear_run(cells: &mut Vec<Cell>, first: u64, run: ByteRun)
 {
     let low = (run.first - first) as usize;
     for k in 0..run.blocks {
-        clear_part(&mut cells[low + k], part_of(run, k));
+        clear_part(&mut cells[low + k], block_part(run, k));
     }
 }
 
@@ -76,7 +76,7 @@ impl Range {
         let alloc = *self.log.allocator();
         let low = (run.first - self.first) as usize;
         let needs = &NeedsPageForZeros {};
-        let Ok(()) = fill_pages(alloc, run.size, needs, &mut self.cells, low, run.blocks) else {
+        let Ok(()) = give_pages(alloc, run.size, needs, &mut self.cells, low, run.blocks) else {
             return Err(EventFault::NoMemory);
         };
         clear_run(&mut self.cells, self.first, run);

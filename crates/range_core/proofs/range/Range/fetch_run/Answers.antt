@@ -14,10 +14,10 @@ use Rattle.range_core.proofs.range.Range.fetch_run.Goals as goal
 pub copy_run-requires-clause-high : goal.copy_run-requires-clause-high
 copy_run-requires-clause-high c =
     let low : ℕ = c.args.run.first - c.self.inside.first in
-    let many : length c.fill_pages.new.cells.items ≡ length c.self.inside.cells.items = ap length c.in-Ok-fill_pages.ensures.filled ∙ length-on_each (fill_each c.args.run) 0 low c.args.run.blocks c.self.inside.cells.items in
+    let many : length c.give_pages.new.cells.items ≡ length c.self.inside.cells.items = ap length c.in-Ok-give_pages.ensures.filled ∙ length-on_each (fill_each c.args.run) 0 low c.args.run.blocks c.self.inside.cells.items in
     let high : c.args.run.first + c.args.run.blocks ≤ c.self.inside.first + length c.self.inside.cells.items =
     (let V : RangeView → Type 0 = λ r. c.args.run.first + c.args.run.blocks ≤ r.first + length r.cells in subst V (sym c.self.view_is) c.requires.run.lies.high) in
-    omega (arith, many, high, c.fill_pages.new.cells.ok.0)
+    omega (arith, many, high, c.give_pages.new.cells.ok.0)
 
 pub copy_run-requires-clause-pages : goal.copy_run-requires-clause-pages
 copy_run-requires-clause-pages c =
@@ -26,7 +26,7 @@ copy_run-requires-clause-pages c =
     let W : RangeView → Type 0 = λ v. All (HasWholePage v.geometry.block_size) v.cells in
     let size : r.geometry.block_size ≡ c.args.run.size = ap (λ v. v.geometry.block_size) c.self.view_is ∙ sym (ap (λ x. x.size) c.requires.run.is) in
     let S : ℕ → Type 0 = λ n. All (HasWholePage n) r.cells.items in
-    subst P (sym c.in-Ok-fill_pages.ensures.filled) (filled_pages c.args.run (c.args.run.first - r.first) r.cells.items (subst S size (subst W (sym c.self.view_is) c.requires.pages)))
+    subst P (sym c.in-Ok-give_pages.ensures.filled) (filled_pages c.args.run (c.args.run.first - r.first) r.cells.items (subst S size (subst W (sym c.self.view_is) c.requires.pages)))
 
 -- the stamps that the log has in the end
 log_is : (c : goal.After-add_stamps) → c.add_stamps.new.log.items ≡ c.self.inside.log.items ++ stamps_from c.args.run.first c.args.run.blocks (done_by c.args.by)
@@ -43,14 +43,14 @@ invariant_of-self-2 c =
     let is : was ≡ c.args.self.now = c.self.view_is in
     let first : r.first ≤ c.args.run.first = (let V : RangeView → Type 0 = λ v. v.first ≤ c.args.run.first in subst V (sym is) c.requires.run.lies.low) in
     let last : c.args.run.first + n ≤ r.first + length r.cells.items = (let V : RangeView → Type 0 = λ v. c.args.run.first + n ≤ v.first + length v.cells in subst V (sym is) c.requires.run.lies.high) in (
-      kept_sound (fill_each c.args.run) (filled_keeps lacks_page c.args.run.size) was c.args.run.first n low (done_by c.args.by) c.fill_pages.new.cells.items c.add_stamps.new.log.items r.cookie r.errors r.tickets (seat_view r.seat) c.self.invariant.0 first last c.in-Ok-fill_pages.ensures.filled (log_is c),
-      kept_room (fill_each c.args.run) (filled_keeps lacks_page c.args.run.size) low n _ _ _ r.cells.items c.fill_pages.new.cells.items c.in-Ok-fill_pages.ensures.filled c.add_stamps.ensures.len (omega (arith, c.in-Ok.ensures.ok, c.add_stamps.ensures.kept, c.len.ensures, r.cells.ok.0)),
+      kept_sound (fill_each c.args.run) (filled_keeps lacks_page c.args.run.size) was c.args.run.first n low (done_by c.args.by) c.give_pages.new.cells.items c.add_stamps.new.log.items r.cookie r.errors r.tickets (seat_view r.seat) c.self.invariant.0 first last c.in-Ok-give_pages.ensures.filled (log_is c),
+      kept_room (fill_each c.args.run) (filled_keeps lacks_page c.args.run.size) low n _ _ _ r.cells.items c.give_pages.new.cells.items c.in-Ok-give_pages.ensures.filled c.add_stamps.ensures.len (omega (arith, c.in-Ok.ensures.ok, c.add_stamps.ensures.kept, c.len.ensures, r.cells.ok.0)),
     )
 
 pub returns-clause-state : goal.returns-clause-state
 returns-clause-state c =
     let r = c.self.inside in
-    let cells = c.in-Ok-fill_pages.ensures.filled in
+    let cells = c.in-Ok-give_pages.ensures.filled in
     let log = log_is c in
     let view : List Cell × List (ℕ × Stamp) → RangeView = λ p. range_view r.geometry r.mode r.first p.0 p.1 r.cookie r.errors r.tickets (seat_view r.seat) (seat_claims r.seat).facts in
     (λ i. view (cells i, log i)) ∙ ap (λ v. after_bytes (fill_each c.args.run) v c.args.by c.args.run) c.self.view_is

@@ -7,16 +7,16 @@ use Rattle.range_core.specs.Cells.{IsPlaced}
 use Rattle.range_core.specs.OnRun.{count_on, on_each}
 use Rattle.range_core.specs.Placing.{is_unused}
 use Rattle.range_core.specs.RangeView.{IsSound, range_view}
-use Rattle.range_core.specs.Reserves.{released}
+use Rattle.range_core.specs.Reserves.{unpromised}
 use Rattle.range_core.specs.Space.{ClaimsSpace, SpaceClaims}
 use Rattle.range_core.specs.declared.cell.Cell.{Cell}
 use Rattle.range_core.proofs.OnRunLemmas.{All-on_each, length-on_each, total-on_each}
-use Rattle.range_core.proofs.UnreserveLemmas.{released-gone, released-placed, space_released, unused-few}
+use Rattle.range_core.proofs.UnreserveLemmas.{unpromised-gone, unpromised-placed, space_released, unused-few}
 use Rattle.range_core.proofs.SoundLemmas.{sound_unlogged}
 use Rattle.range_core.proofs.range.Range.unreserve.Goals as goal
 
 abbrev changed : ℕ → Cell → Cell
-changed _ c = released c
+changed _ c = unpromised c
 
 pub unreserve_at-requires-clause-reserved : goal.unreserve_at-requires-clause-reserved
 unreserve_at-requires-clause-reserved g c =
@@ -40,9 +40,9 @@ invariant_of-self g c =
     c.unreserve_at.ensures.claims ∙ ap (with_fewer (seat_claims r.seat).facts) counted in
     let C : SpaceClaims → Type 0 = λ s. ClaimsSpace size now s in
     let space = subst C (sym left) (space_released size low n was (seat_claims r.seat).facts sound.space) in
-    let places : All (IsPlaced size) now = All-on_each changed (IsPlaced size) (λ _. released-placed size) 0 low n was sound.places in
+    let places : All (IsPlaced size) now = All-on_each changed (IsPlaced size) (λ _. unpromised-placed size) 0 low n was sound.places in
     let S : List Cell → Type 0 = λ cells. IsSound (range_view r.geometry r.mode r.first cells r.log.items c.next_cookie-self-inside.result r.errors r.tickets (seat_view c.unreserve_at.new.seat) (seat_claims c.unreserve_at.new.seat).facts) in
-    let gone : total is_gone c.release_run.new.cells.items ≡ total is_gone was = ap (total is_gone) c.release_run.ensures ∙ total-on_each changed is_gone (λ _. released-gone) 0 low n was in
+    let gone : total is_gone c.release_run.new.cells.items ≡ total is_gone was = ap (total is_gone) c.release_run.ensures ∙ total-on_each changed is_gone (λ _. unpromised-gone) 0 low n was in
     let room = c.self.invariant.1 in (
       subst S (sym c.release_run.ensures) (sound_unlogged (range_view r.geometry r.mode r.first was r.log.items r.cookie r.errors r.tickets (seat_view r.seat) (seat_claims r.seat).facts) now _ _ _ _ _ sound (length-on_each changed 0 low n was) places space),
       omega arith,

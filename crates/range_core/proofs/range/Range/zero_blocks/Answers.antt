@@ -21,8 +21,8 @@ clear_run-requires-clause-high c =
     let low : ℕ = c.args.run.first - c.self.inside.first in
     let V : RangeView → Type 0 = λ v. IsRunIn v c.args.run in
     let here = subst V (sym c.self.view_is) c.requires.run in
-    let many : length c.fill_pages.new.cells.items ≡ length c.self.inside.cells.items = ap length c.in-Ok-fill_pages.ensures.filled ∙ length-on_each (fill c.args.run.size) 0 low c.args.run.blocks c.self.inside.cells.items in
-    omega (arith, many, here.lies.high, c.fill_pages.new.cells.ok.0)
+    let many : length c.give_pages.new.cells.items ≡ length c.self.inside.cells.items = ap length c.in-Ok-give_pages.ensures.filled ∙ length-on_each (fill c.args.run.size) 0 low c.args.run.blocks c.self.inside.cells.items in
+    omega (arith, many, here.lies.high, c.give_pages.new.cells.ok.0)
 
 pub clear_run-requires-clause-pages : goal.clear_run-requires-clause-pages
 clear_run-requires-clause-pages c =
@@ -32,7 +32,7 @@ clear_run-requires-clause-pages c =
     let whole = subst HaveWholePages (sym c.self.view_is) c.requires.pages in
     let S : ℕ → Type 0 = λ n. All (HasWholePage n) r.cells.items in
     let P : List Cell → Type 0 = λ xs. HavePagesForZeros c.args.run r.first xs in
-    subst P (sym c.in-Ok-fill_pages.ensures.filled) (pages_for_zeros c.args.run (c.args.run.first - r.first) r.cells.items (subst S (sym (ap (λ x. x.size) here.is)) whole))
+    subst P (sym c.in-Ok-give_pages.ensures.filled) (pages_for_zeros c.args.run (c.args.run.first - r.first) r.cells.items (subst S (sym (ap (λ x. x.size) here.is)) whole))
 
 -- the stamps that the log has in the end
 log_is : (c : goal.After-add_stamps) → c.add_stamps.new.log.items ≡ c.self.inside.log.items ++ stamps_from c.args.run.first c.args.run.blocks (done_by c.args.by)
@@ -42,7 +42,7 @@ log_is c =
 
 -- the blocks in the end
 cells_are : (c : goal.After-add_stamps) → c.clear_run.new.cells.items ≡ on_each (zeroed c.args.run) 0 (c.args.run.first - c.self.inside.first) c.args.run.blocks c.self.inside.cells.items
-cells_are c = zeroed_twice c.args.run (c.args.run.first - c.self.inside.first) c.self.inside.cells.items c.fill_pages.new.cells.items c.clear_run.new.cells.items c.in-Ok-fill_pages.ensures.filled c.clear_run.ensures
+cells_are c = zeroed_twice c.args.run (c.args.run.first - c.self.inside.first) c.self.inside.cells.items c.give_pages.new.cells.items c.clear_run.new.cells.items c.in-Ok-give_pages.ensures.filled c.clear_run.ensures
 
 pub invariant_of-self-2 : goal.invariant_of-self-2
 invariant_of-self-2 c =

@@ -19,7 +19,7 @@ copy_stored-requires-clause-room c =
     let high : run.first + run.blocks ≤ c.args.first + length cells = omega (arith, c.args.cells.now.ok.0, c.requires.high) in
     let whole = stored-whole run c.args.first cells c.requires.low high c.requires.ready c.index.result.now in
     let P : BlockPart → Type 0 = λ p. HasNext c.loop-k.iov p.length in
-    subst P (sym c.part_of.ensures.part) (gather_room run contents c.requires.run whole c.args.iov.now c.loop-k.iov k c.loop-k-test.true c.requires.room c.loop-k.invariant)
+    subst P (sym c.block_part.ensures.part) (gather_room run contents c.requires.run whole c.args.iov.now c.loop-k.iov k c.loop-k-test.true c.requires.room c.loop-k.invariant)
 
 pub loop-k-preserved : goal.loop-k-preserved
 loop-k-preserved c =
@@ -30,6 +30,6 @@ loop-k-preserved c =
     let high : run.first + run.blocks ≤ c.args.first + length cells = omega (arith, c.args.cells.now.ok.0, c.requires.high) in
     let whole = stored-whole run c.args.first cells c.requires.low high c.requires.ready c.index.result.now in
     let at : slice_get cells (run.first - c.args.first + k) ≡ Some c.index.result.now = slice_get-get_or cells (run.first - c.args.first + k) c.index.result.now (omega arith) ∙ ap Some (sym c.index.ensures) in
-    let copied = c.copy_stored.ensures ∙ ap (λ p. written_on (part_bytes p (stored_bytes run.size c.index.result.now)) c.loop-k.iov) c.part_of.ensures.part
+    let copied = c.copy_stored.ensures ∙ ap (λ p. written_on (part_bytes p (stored_bytes run.size c.index.result.now)) c.loop-k.iov) c.block_part.ensures.part
     ∙ ap (λ x. written_on (part_bytes (part_at run (run.first + k)) x) c.loop-k.iov) (sym (stored-block run c.args.first cells c.requires.low k c.index.result.now at)) in
     gather_more run contents c.requires.run whole c.args.iov.now c.loop-k.iov c.copy_stored.new.iov k c.loop-k-test.true c.requires.room c.loop-k.invariant copied

@@ -30,12 +30,12 @@ put_part-requires-clause-sector c =
     let bytes : List ℕ = next_bytes c.args.iov.now (run.to - run.from) in
     let low = c.requires.low in
     let within : run.first - c.args.first + run.blocks ≤ length c.args.cells.now.items = omega (arith, c.requires.high, c.args.cells.now.ok.0) in
-    full_part run c.args.first (put run bytes) c.args.cells.now.items c.loop-k.cells.items c.loop-k.k c.index_mut.result.now c.part_of.result.at c.part_of.result.length c.requires.full c.loop-k-test.true within c.loop-k.invariant.cells c.index_mut.ensures.value c.part_of.ensures.within
+    full_part run c.args.first (put run bytes) c.args.cells.now.items c.loop-k.cells.items c.loop-k.k c.index_mut.result.now c.block_part.result.at c.block_part.result.length c.requires.full c.loop-k-test.true within c.loop-k.invariant.cells c.index_mut.ensures.value c.block_part.ensures.within
 
 pub put_part-requires-clause-room : goal.put_part-requires-clause-room
 put_part-requires-clause-room c =
     let P : BlockPart → Type 0 = λ p. HasNext c.loop-k.iov p.length in
-    subst P (sym c.part_of.ensures.part) (room_past c.args.run c.requires.run c.loop-k.k c.loop-k-test.true c.args.iov.now c.loop-k.iov c.requires.room c.loop-k.invariant.iov)
+    subst P (sym c.block_part.ensures.part) (room_past c.args.run c.requires.run c.loop-k.k c.loop-k-test.true c.args.iov.now c.loop-k.iov c.requires.room c.loop-k.invariant.iov)
 
 pub loop-k-preserved : goal.loop-k-preserved
 loop-k-preserved c =
@@ -47,11 +47,11 @@ loop-k-preserved c =
     let l = c.loop-k-test.true in
     let within : run.first - c.args.first + k < length c.args.cells.now.items = omega (arith, c.requires.high, c.args.cells.now.ok.0) in
     let written : c.put_part.new.cell ≡ put run bytes k cell =
-    c.put_part.ensures.cell ∙ ap (λ (p : BlockPart). through (overlay p.at (next_bytes c.loop-k.iov p.length)) (made_mapped cell)) c.part_of.ensures.part ∙ put_part-is run c.requires.run k l c.args.iov.now c.loop-k.iov cell c.loop-k.invariant.iov in
+    c.put_part.ensures.cell ∙ ap (λ (p : BlockPart). through (overlay p.at (next_bytes c.loop-k.iov p.length)) (made_mapped cell)) c.block_part.ensures.part ∙ put_part-is run c.requires.run k l c.args.iov.now c.loop-k.iov cell c.loop-k.invariant.iov in
     record {
       cells = each_more (put run bytes) (run.first - c.args.first) k c.args.cells.now.items c.loop-k.cells.items cell c.put_part.new.cell c.loop-k.invariant.cells c.index_mut.ensures.value within written;
       many = c.loop-k.invariant.many;
-      iov = past_more run c.requires.run k l c.args.iov.now c.loop-k.iov c.put_part.new.iov c.loop-k.invariant.iov (c.put_part.ensures.iov ∙ ap (λ (p : BlockPart). past c.loop-k.iov p.length) c.part_of.ensures.part);
+      iov = past_more run c.requires.run k l c.args.iov.now c.loop-k.iov c.put_part.new.iov c.loop-k.invariant.iov (c.put_part.ensures.iov ∙ ap (λ (p : BlockPart). past c.loop-k.iov p.length) c.block_part.ensures.part);
     }
 
 pub returns-clause-iov : goal.returns-clause-iov

@@ -15,7 +15,7 @@ clear_part-requires c =
     let run = c.args.run in
     let low = c.requires.low in
     let within : run.first - c.args.first + run.blocks ≤ length c.args.cells.now.items = omega (arith, c.requires.high, c.args.cells.now.ok.0) in
-    mapped_part run c.args.first (zeroed_through run) c.args.cells.now.items c.loop-k.cells.items c.loop-k.k c.index_mut.result.now c.part_of.result.at c.part_of.result.length c.requires.ready c.loop-k-test.true within c.loop-k.invariant.cells c.index_mut.ensures.value c.part_of.ensures.within
+    mapped_part run c.args.first (zeroed_through run) c.args.cells.now.items c.loop-k.cells.items c.loop-k.k c.index_mut.result.now c.block_part.result.at c.block_part.result.length c.requires.ready c.loop-k-test.true within c.loop-k.invariant.cells c.index_mut.ensures.value c.block_part.ensures.within
 
 pub loop-k-preserved : goal.loop-k-preserved
 loop-k-preserved c =
@@ -25,7 +25,7 @@ loop-k-preserved c =
     let low = c.requires.low in
     let l = c.loop-k-test.true in
     let within : run.first - c.args.first + k < length c.args.cells.now.items = omega (arith, c.requires.high, c.args.cells.now.ok.0) in
-    let written : c.clear_part.new.cell ≡ zeroed_through run k cell = c.clear_part.ensures ∙ ap (λ (p : BlockPart). cleared_through p cell) c.part_of.ensures.part ∙ cleared-through run c.requires.run k l cell in
+    let written : c.clear_part.new.cell ≡ zeroed_through run k cell = c.clear_part.ensures ∙ ap (λ (p : BlockPart). cleared_through p cell) c.block_part.ensures.part ∙ cleared-through run c.requires.run k l cell in
     record {
       cells = each_more (zeroed_through run) (run.first - c.args.first) k c.args.cells.now.items c.loop-k.cells.items cell c.clear_part.new.cell c.loop-k.invariant.cells c.index_mut.ensures.value within written;
       many = c.loop-k.invariant.many;

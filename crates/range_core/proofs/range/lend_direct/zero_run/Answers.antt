@@ -5,5 +5,5 @@ use Rattle.range_core.proofs.range.lend_direct.zero_run.Goals as goal
 
 pub loop-part-preserved : goal.loop-part-preserved
 loop-part-preserved c =
-    ap (λ p. set c.loop-part.parts c.loop-part.part-index p) (c.zero_page.ensures ∙ ap part_zeroed (sym c.part-item.is))
+    ap (λ p. set c.loop-part.parts c.loop-part.part-index p) (c.zero_part.ensures ∙ ap part_zeroed (sym c.part-item.is))
     ∙ map_over_more part_zeroed c.args.parts.now c.loop-part.parts c.loop-part.part-index _ c.loop-part-test.true c.loop-part.invariant c.part-item.is

@@ -1,11 +1,11 @@
 use Rattle.std.proofs.Common.{ℕ, ◌+◌, ◌<◌, List, length, arith}
-use Rattle.range_core.specs.Reserves.{released}
+use Rattle.range_core.specs.Reserves.{unpromised}
 use Rattle.range_core.specs.declared.cell.Cell.{Cell}
 use Rattle.range_core.proofs.OnRunLemmas.{each_more, on_each-none}
 use Rattle.range_core.proofs.range.reserve.release_run.Goals as goal
 
 abbrev changed : ℕ → Cell → Cell
-changed _ c = released c
+changed _ c = unpromised c
 
 pub loop-i-init : goal.loop-i-init
 loop-i-init c = record { cells = on_each-none changed 0 c.args.low c.args.cells.now.items; many = omega arith }

@@ -27,12 +27,12 @@ store_part-requires-clause-page c =
     let bytes : List ℕ = next_bytes c.args.iov.now (run.to - run.from) in
     let low = c.requires.low in
     let within : run.first - c.args.first + run.blocks ≤ length c.args.cells.now.items = omega (arith, c.requires.high, c.args.cells.now.ok.0) in
-    part_page run c.args.first (laid run bytes) c.args.cells.now.items c.loop-k.cells.items c.loop-k.k c.index_mut.result.now c.part_of.result c.requires.pages c.loop-k-test.true within c.loop-k.invariant.cells c.index_mut.ensures.value c.part_of.ensures.within
+    part_page run c.args.first (laid run bytes) c.args.cells.now.items c.loop-k.cells.items c.loop-k.k c.index_mut.result.now c.block_part.result c.requires.pages c.loop-k-test.true within c.loop-k.invariant.cells c.index_mut.ensures.value c.block_part.ensures.within
 
 pub store_part-requires-clause-room : goal.store_part-requires-clause-room
 store_part-requires-clause-room c =
     let P : BlockPart → Type 0 = λ p. HasNext c.loop-k.iov p.length in
-    subst P (sym c.part_of.ensures.part) (room_past c.args.run c.requires.run c.loop-k.k c.loop-k-test.true c.args.iov.now c.loop-k.iov c.requires.room c.loop-k.invariant.iov)
+    subst P (sym c.block_part.ensures.part) (room_past c.args.run c.requires.run c.loop-k.k c.loop-k-test.true c.args.iov.now c.loop-k.iov c.requires.room c.loop-k.invariant.iov)
 
 pub loop-k-preserved : goal.loop-k-preserved
 loop-k-preserved c =
@@ -44,11 +44,11 @@ loop-k-preserved c =
     let l = c.loop-k-test.true in
     let within : run.first - c.args.first + k < length c.args.cells.now.items = omega (arith, c.requires.high, c.args.cells.now.ok.0) in
     let written : c.store_part.new.cell ≡ laid run bytes k cell =
-    c.store_part.ensures.cell ∙ ap (λ (p : BlockPart). dirtied (overlay p.at (next_bytes c.loop-k.iov p.length)) cell) c.part_of.ensures.part ∙ laid_part run c.requires.run k l c.args.iov.now c.loop-k.iov cell c.loop-k.invariant.iov in
+    c.store_part.ensures.cell ∙ ap (λ (p : BlockPart). dirtied (overlay p.at (next_bytes c.loop-k.iov p.length)) cell) c.block_part.ensures.part ∙ laid_part run c.requires.run k l c.args.iov.now c.loop-k.iov cell c.loop-k.invariant.iov in
     record {
       cells = each_more (laid run bytes) (run.first - c.args.first) k c.args.cells.now.items c.loop-k.cells.items cell c.store_part.new.cell c.loop-k.invariant.cells c.index_mut.ensures.value within written;
       many = c.loop-k.invariant.many;
-      iov = past_more run c.requires.run k l c.args.iov.now c.loop-k.iov c.store_part.new.iov c.loop-k.invariant.iov (c.store_part.ensures.iov ∙ ap (λ (p : BlockPart). past c.loop-k.iov p.length) c.part_of.ensures.part);
+      iov = past_more run c.requires.run k l c.args.iov.now c.loop-k.iov c.store_part.new.iov c.loop-k.invariant.iov (c.store_part.ensures.iov ∙ ap (λ (p : BlockPart). past c.loop-k.iov p.length) c.block_part.ensures.part);
     }
 
 pub returns-clause-iov : goal.returns-clause-iov

@@ -14,7 +14,7 @@ clear_part-requires c =
     let run = c.args.run in
     let low = c.requires.low in
     let within : run.first - c.args.first + run.blocks ≤ length c.args.cells.now.items = omega (arith, c.requires.high, c.args.cells.now.ok.0) in
-    part_page_for_zeros run c.args.first (laid_zeros run) c.args.cells.now.items c.loop-k.cells.items c.loop-k.k c.index_mut.result.now c.part_of.result c.requires.pages c.loop-k-test.true within c.loop-k.invariant.cells c.index_mut.ensures.value c.part_of.ensures.within
+    part_page_for_zeros run c.args.first (laid_zeros run) c.args.cells.now.items c.loop-k.cells.items c.loop-k.k c.index_mut.result.now c.block_part.result c.requires.pages c.loop-k-test.true within c.loop-k.invariant.cells c.index_mut.ensures.value c.block_part.ensures.within
 
 pub loop-k-preserved : goal.loop-k-preserved
 loop-k-preserved c =
@@ -24,7 +24,7 @@ loop-k-preserved c =
     let low = c.requires.low in
     let l = c.loop-k-test.true in
     let within : run.first - c.args.first + k < length c.args.cells.now.items = omega (arith, c.requires.high, c.args.cells.now.ok.0) in
-    let written : c.clear_part.new.cell ≡ laid_zeros run k cell = c.clear_part.ensures ∙ ap (λ (p : BlockPart). cleared p cell) c.part_of.ensures.part ∙ cleared_part run c.requires.run k l cell in
+    let written : c.clear_part.new.cell ≡ laid_zeros run k cell = c.clear_part.ensures ∙ ap (λ (p : BlockPart). cleared p cell) c.block_part.ensures.part ∙ cleared_part run c.requires.run k l cell in
     record {
       cells = each_more (laid_zeros run) (run.first - c.args.first) k c.args.cells.now.items c.loop-k.cells.items cell c.clear_part.new.cell c.loop-k.invariant.cells c.index_mut.ensures.value within written;
       many = c.loop-k.invariant.many;

@@ -1,7 +1,7 @@
 use Rattle.std.proofs.Common.{◌≡◌, Option, Some, [], ◌∷◌, ◌++◌, set, refl, sym, ◌∙◌, ap, subst}
 use Rattle.iob_base.specs.declared.stamp.Op.TheVariants.{Read}
 use Rattle.range_core.specs.ClaimsView.{ClaimsView}
-use Rattle.range_core.specs.LendReads.{fill_entry, filled}
+use Rattle.range_core.specs.LendReads.{fill_entry, after_fill_back}
 use Rattle.range_core.specs.RangeTruth.{RangeTruth}
 use Rattle.range_core.specs.RangeView.{RangeView}
 use Rattle.range_core.specs.Returning.{ComesBack, MayComeBack}
@@ -34,7 +34,7 @@ returns c s =
     let M : Lent → Type 0 = λ l. MayComeBack s.opening claims Reading Read l done in
     let entry : Entry = fill_entry claims back done in
     let N : RangeView → Type 0 = λ r. RangeTruth s.opening r (s.history ++ entry ∷ []) (set s.stakes s.number (Some c.fill_back.new.claims, s.made ++ entry ∷ [])) in
-    let L : ClaimsView → Type 0 = λ l. RangeTruth s.opening (filled now back done) (s.history ++ entry ∷ []) (set s.stakes s.number (Some l, s.made ++ entry ∷ [])) in
+    let L : ClaimsView → Type 0 = λ l. RangeTruth s.opening (after_fill_back now back done) (s.history ++ entry ∷ []) (set s.stakes s.number (Some l, s.made ++ entry ∷ [])) in
     record {
       entry = entry;
       done = record { back = back; given = given; change_is = ap (λ (b : Option Lent). record c.args.self.now { back = b }) c.take.ensures.after; value = c.fill_back.ensures.state; emptied = c.fill_back.ensures.emptied; claims_are = c.fill_back.ensures.claims; entry_is = refl };

@@ -6,8 +6,8 @@ use Rattle.range_core.specs.Paging.{filled_where}
 use Rattle.range_core.specs.declared.cell.Cell.{Cell}
 use Rattle.range_core.proofs.OnRunLemmas.{count_on-none, length-on_each, on_each-none}
 use Rattle.range_core.proofs.PagingLemmas.{IsFilling, Takes, keep_page, take_page}
-use Rattle.range_core.proofs.paging.fill_pages.Goals as goal
-use Rattle.range_core.proofs.paging.fill_pages.Goals.{then-needs+in-Some-1, then-needs+in-None-1, else-needs}
+use Rattle.range_core.proofs.paging.give_pages.Goals as goal
+use Rattle.range_core.proofs.paging.give_pages.Goals.{then-needs+in-Some-1, then-needs+in-None-1, else-needs}
 
 abbrev items : {A B : Type 0} → Vec A B → List A
 items v = v.items

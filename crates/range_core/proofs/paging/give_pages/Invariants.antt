@@ -1,6 +1,6 @@
 use Rattle.std.proofs.Common.{◌≡◌, vec_len}
 use Rattle.range_core.proofs.PagingLemmas.{IsFilling}
-use Rattle.range_core.proofs.paging.fill_pages.Given as goal
+use Rattle.range_core.proofs.paging.give_pages.Given as goal
 
 abbrev pub invariant-loop-i : goal.invariant-loop-i
 invariant-loop-i g l = record {
