@@ -62,8 +62,3 @@ zeroed_sound r run cells log st met size lies s are joined =
     subst S (sym are)
     (sound_next r (on_each f 0 low run.blocks r.cells) log (stamps_from run.first run.blocks st) r.cookie r.errors r.tickets r.seat r.space s (length-on_each f 0 low run.blocks r.cells) places joined (stamps_from-range r.first (length r.cells) run.first run.blocks st first last)
     (space_stays f (zeroed-stays run) r.geometry.block_size low run.blocks r.cells r.space s.space))
-
-pub zeroed_room : (run : ByteRun) (low n before after capacity : ℕ) (was cells : List Cell) → cells ≡ on_each (zeroed_through run) 0 low n was → after ≡ before + n → before + (n + length was) ≤ capacity → after + total is_gone cells ≤ capacity
-zeroed_room run low n before after capacity was cells are more room =
-    let same : total is_gone cells ≡ total is_gone was = ap (total is_gone) are ∙ gone_stay (zeroed_through run) (zeroed-stays run) low n was in
-    omega (arith, gone-within was)

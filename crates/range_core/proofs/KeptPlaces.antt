@@ -63,9 +63,3 @@ module _ (f : ℕ → Cell → Cell) (keeps : KeepsPlaces f) where
       (sound_next r (on_each f 0 low n r.cells) log (stamps_from b n st) cookie errors tickets seat r.space s (length-on_each f 0 low n r.cells)
       (All-on_each f (IsPlaced size) (kept-placed size) 0 low n r.cells s.places) joined (stamps_from-range r.first (length r.cells) b n st first last)
       (kept_space size low n r.cells r.space s.space))
-
-  -- and there is still room for one stamp of each block that is away
-  pub kept_room : (low n before after capacity : ℕ) (was cells : List Cell) → cells ≡ on_each f 0 low n was → after ≡ before + n → before + (n + length was) ≤ capacity → after + total is_gone cells ≤ capacity
-  kept_room low n before after capacity was cells are more room =
-      let same : total is_gone cells ≡ total is_gone was = ap (total is_gone) are ∙ kept_gone low n was in
-      omega (arith, gone-within was)

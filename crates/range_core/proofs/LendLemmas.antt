@@ -1,5 +1,5 @@
 -- How blocks are lent and come home, one by one.
-use Rattle.std.proofs.Common.{◌≡◌, ℕ, zero, suc, ◌+◌, ◌<◌, ◌≤◌, Option, Some, None, IsSome, IsTrue, List, [], ◌∷◌, ◌++◌, length, map, drop, get_or, set, All, arith, refl, sym, ◌∙◌, ap, subst, append_assoc}
+use Rattle.std.proofs.Common.{◌≡◌, ℕ, zero, suc, ◌+◌, ◌*◌, ◌<◌, ◌≤◌, Option, Some, None, IsSome, IsTrue, List, [], ◌∷◌, ◌++◌, length, map, drop, get_or, set, All, arith, refl, sym, ◌∙◌, ap, subst, append_assoc}
 use Rattle.std.specs.Prelude.{is_some, slice_get, unwrap_or}
 use Rattle.std.proofs.Math.Seq.{drop-cons}
 use Rattle.std.proofs.lemmas.List.{drop-set-lt}
@@ -23,7 +23,7 @@ use Rattle.range_core.specs.declared.lending.Lender.{Lender}
 use Rattle.range_core.specs.declared.lending.Lender.TheVariants.{Reading, Writeback, Direct}
 use Rattle.range_core.proofs.FirstTruth.{All-there}
 use Rattle.range_core.proofs.OnRunLemmas.{length-on_each, map-on_each}
-use Rattle.range_core.proofs.SoundLemmas.{All-on_each_at, gone-within, sound_unlogged}
+use Rattle.range_core.proofs.SoundLemmas.{All-on_each_at, room_for_returns, sound_unlogged}
 use Rattle.range_core.proofs.SpaceLemmas.{space_by_kinds}
 
 -- what is left of a list, from its first item on
@@ -154,16 +154,16 @@ lent_sound r away low n tickets s m =
     (All-on_each_at lends is_gone (IsPlaced size) 0 low n r.cells m.within (λ j x l at p. lent-placed size away x (m.space j x l at)) s.places)
     (space_by_kinds size r.cells (on_run (lent_cell away) low n r.cells) r.space (map-on_each lends (λ (x : Cell). x.kind) (λ _ x. lent-kind away x) 0 low n r.cells) s.space)
 
--- it keeps its invariant then, where its log has room for as many stamps more as it has blocks
+-- it keeps its invariant then, where its log has room for two runs more for each of its blocks
 pub lend_keeps : (r : RangeView) (away : Away) (low n many tickets used capacity : ℕ) (cells : List Cell) (log : List (ℕ × Stamp)) → IsSound r → MayLend r.cells low n → n ≡ many → cells ≡ on_run (lent_cell away) low many r.cells → log ≡ r.log
-    → used + length r.cells ≤ capacity → IsSound (range_view r.geometry r.mode r.first cells log r.cookie r.errors tickets r.seat r.space) × (used + total is_gone cells ≤ capacity)
+    → used + (1 + 2 * length r.cells) ≤ capacity → IsSound (range_view r.geometry r.mode r.first cells log r.cookie r.errors tickets r.seat r.space) × (used + 2 * total is_gone cells ≤ capacity)
 lend_keeps r away low n many tickets used capacity cells log sound may e is same room =
     let now : List Cell = on_run (lent_cell away) low n r.cells in
     let now_is : cells ≡ now = is ∙ ap (λ m. on_run (lent_cell away) low m r.cells) (sym e) in
     let S : List Cell → Type 0 = λ xs. IsSound (range_view r.geometry r.mode r.first xs log r.cookie r.errors tickets r.seat r.space) in
     let L : List (ℕ × Stamp) → Type 0 = λ l. IsSound (range_view r.geometry r.mode r.first now l r.cookie r.errors tickets r.seat r.space) in (
       subst S (sym now_is) (subst L (sym same) (lent_sound r away low n tickets sound may)),
-      omega (arith, room, gone-within cells, ap length now_is, length-on_each (λ _. lent_cell away) 0 low n r.cells),
+      room_for_returns used used (length r.cells) capacity cells (ap length now_is ∙ length-on_each (λ _. lent_cell away) 0 low n r.cells) (omega arith) room,
     )
 
 -- a block with space that is at home has a whole sector

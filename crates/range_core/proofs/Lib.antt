@@ -73,6 +73,7 @@ pub mod SoundLemmas
 pub mod SpaceLemmas
 pub mod StakeTruth
 pub mod StampLemmas
+pub mod StampRunLemmas
 pub mod StampedTruth
 pub mod StopLemmas
 pub mod StoreLemmas

@@ -198,8 +198,8 @@ module _ (r : RangeView) (h : Held) (op : Op) (landed : ℕ) (f : ℕ → Cell �
 
 -- a range keeps its invariant when blocks come home to it
 pub returned_keeps : (r : RangeView) (h : Held) (op : Op) (landed : ℕ) (f : ℕ → Cell → Cell) (back : Lent) (cells : List Cell) (cookie errors used capacity : ℕ) → IsSound r → AreOut r h → AllHome r h op landed f → IsAtClaim r.first h back
-    → cells ≡ on_each f 0 (back.block - r.first) (length back.parts) r.cells → used + total is_gone r.cells ≤ capacity
-    → IsSound (range_view r.geometry r.mode r.first cells r.log cookie errors r.tickets r.seat r.space) × (used + total is_gone cells ≤ capacity)
+    → cells ≡ on_each f 0 (back.block - r.first) (length back.parts) r.cells → used + 2 * total is_gone r.cells ≤ capacity
+    → IsSound (range_view r.geometry r.mode r.first cells r.log cookie errors r.tickets r.seat r.space) × (used + 2 * total is_gone cells ≤ capacity)
 returned_keeps r h op landed f back cells cookie errors used capacity sound out home place is room =
     let low : ℕ = h.lent.value.block - r.first in
     let n : ℕ = length h.lent.value.parts in

@@ -53,6 +53,10 @@ is_gone-few c = grind arith
 pub gone-within : (cells : List Cell) → total is_gone cells ≤ length cells
 gone-within cells = total-few is_gone cells is_gone-few
 
+-- where room was made for one run of stamps and two more for each block, one run at most leaves room for two of each block that is away
+pub room_for_returns : (before after blocks capacity : ℕ) (cells : List Cell) → length cells ≡ blocks → after ≤ before + 1 → before + (1 + 2 * blocks) ≤ capacity → after + 2 * total is_gone cells ≤ capacity
+room_for_returns before after blocks capacity cells many few room = omega (arith, gone-within cells)
+
 module _ {A : Type 0} (f : ℕ → A → A) (w : A → ℕ) where
   -- where each item of a run weighs less by one number and more by another, all weigh so many times less and more
   pub total-moved : (a b k low n : ℕ) (xs : List A) → low + n ≤ length xs → ((j : ℕ) (x : A) → j < n → slice_get xs (low + j) ≡ Some x → w (f (k + j) x) + a ≡ w x + b) → total w (on_each f k low n xs) + n * a ≡ total w xs + n * b

@@ -14,12 +14,6 @@ stamps_from-more b zero st = ap (λ c. (c, st) ∷ []) (sym (add-zero b))
 stamps_from-more b (suc n) st =
     ap (λ l. (b, st) ∷ l) (stamps_from-more (b + 1) n st ∙ ap (λ c. stamps_from (b + 1) n st ++ (c, st) ∷ []) (omega arith))
 
-pub log_more : (log now new : List (ℕ × Stamp)) (b i : ℕ) (st : Stamp) → now ≡ log ++ stamps_from b i st → new ≡ now ++ (b + i, st) ∷ [] → new ≡ log ++ stamps_from b (i + 1) st
-log_more log now new b i st e n =
-    n ∙ ap (λ l. l ++ (b + i, st) ∷ []) e ∙ append_assoc log (stamps_from b i st) ((b + i, st) ∷ [])
-    ∙ ap (λ l. log ++ l) (sym (stamps_from-more b i st))
-    ∙ ap (λ m. log ++ stamps_from b m st) (sym (add-one i))
-
 -- an end with this journal
 abbrev pub with_journal : BlockEnd → List Stamp → BlockEnd
 with_journal e stamps = record e { journal = stamps }
@@ -90,11 +84,10 @@ journaled-more c b log st (e ∷ ends) h k =
         ∙ ap (λ l. with_journal e (e.journal ++ stamps_at c log) ∷ l) (more after)
         ∙ ap (λ n. stamp_added n st (with_journal e (e.journal ++ stamps_at c log) ∷ journaled (c + 1) log ends)) (sym next)
 
--- one more entry of the log
-pub journals_more : (first i : ℕ) (log : List (ℕ × Stamp)) (d : ℕ × Stamp) (ends now new : List BlockEnd) → i < length log → first ≤ (get_or log i d).0 → (get_or log i d).0 < first + length ends → now ≡ journaled first (take i log) ends → new ≡ stamp_added ((get_or log i d).0 - first) (get_or log i d).1 now → new ≡ journaled first (take (i + 1) log) ends
-journals_more first i log d ends now new h l m e n =
-    let entry : ℕ × Stamp = get_or log i d in
-    n ∙ ap (stamp_added (entry.0 - first) entry.1) e
-    ∙ sym (journaled-more first entry.0 (take i log) entry.1 ends l m)
-    ∙ ap (λ es. journaled first es ends) (sym (take-suc log i d h))
-    ∙ ap (λ k. journaled first (take k log) ends) (sym (add-one i))
+-- the stamps of one log, and then those of another
+pub journaled-append : (b : ℕ) (log more : List (ℕ × Stamp)) (ends : List BlockEnd) → journaled b (log ++ more) ends ≡ journaled b more (journaled b log ends)
+journaled-append b log more [] = refl
+journaled-append b log more (e ∷ ends) =
+    ap (λ l. with_journal e (e.journal ++ l) ∷ journaled (b + 1) (log ++ more) ends) (filter_map-append (stamp_at b) log more)
+    ∙ ap (λ l. with_journal e l ∷ journaled (b + 1) (log ++ more) ends) (sym (append_assoc e.journal (stamps_at b log) (stamps_at b more)))
+    ∙ ap (λ l. with_journal e (e.journal ++ stamps_at b log ++ stamps_at b more) ∷ l) (journaled-append (b + 1) log more ends)

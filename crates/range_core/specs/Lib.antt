@@ -50,6 +50,7 @@ pub mod Samples
 pub mod Space
 pub mod Spots
 pub mod Stakes
+pub mod StampRuns
 pub mod StampedChanges
 pub mod Stamps
 pub mod StoreZeros

@@ -13,7 +13,8 @@
 //! - `stops`, `cookie`: what hinders an event
 //! - `run`, `leading`, `parts`, `place`: runs of blocks and of bytes, and which blocks of a run an event picks
 //! - `fresh`, `paging`, `dax_bytes`: pages of zeros, and the bytes of sectors
-//! - `lend`, `stamps`, `space`: how sectors go out and come home, what is stamped, and the turns at the pool
+//! - `lend`, `space`: how sectors go out and come home, and the turns at the pool
+//! - `stamps`, `log`, `stamp_run`: what is stamped, the list of stamps, and the runs in which it is kept
 //! - `laws`: what the definitions say, tried by hand
 #![tactic(auto)]
 
@@ -32,6 +33,7 @@ mod leading;
 mod lend;
 mod lending;
 mod loan_answer;
+mod log;
 mod merge;
 mod open;
 mod paging;
@@ -41,6 +43,7 @@ mod range;
 mod run;
 mod sample;
 mod space;
+mod stamp_run;
 mod stamps;
 mod stops;
 

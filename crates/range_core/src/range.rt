@@ -23,6 +23,7 @@ mod wipe;
 
 use crate::cell::Cell;
 use crate::end::RangeEnd;
+use crate::log::StampLog;
 use crate::merge::merge_kinds;
 use crate::open::build_cells;
 use crate::stamps::end_blocks;
@@ -35,7 +36,7 @@ pub use drop_clean::DropCleanRun;
 pub use fetch::FetchRun;
 pub use find_due::{FindDueRun, Found};
 use io_model::Extent;
-use iob_base::{Geometry, Items, Mode, Sector, Stamp};
+use iob_base::{Geometry, Items, Mode, Sector};
 pub use lend_direct::{DirectBackRun, LendDirectRun};
 pub use lend_read::{FillBackRun, LendReadRun};
 pub use lend_writeback::{LendWritebackRun, WrittenBackRun};
@@ -55,14 +56,14 @@ pub use wipe::WipeRun;
 ///
 /// Each block has its sector exactly where its kind has space and no ticket has it, and each stamp is of a block of the
 /// range. The seat at the pool claims exactly the sectors of the blocks, here and away, and has reserved one for each
-/// block that has space only promised to it. There is room for one stamp more of each block that is away.
+/// block that has space only promised to it. There is room for two runs of stamps more for each block that is away.
 #[derive(Drop)]
 pub struct Range {
     geometry: Geometry,
     mode: Mode,
     first: u64,
     cells: Vec<Cell>,
-    log: Vec<(u64, Stamp)>,
+    log: StampLog,
     cookie: u64,
     errors: u64,
     tickets: u64,
@@ -70,7 +71,7 @@ pub struct Range {
 }
 
 impl Model for Range {
-    ghost use Rattle.std.specs.Prelude.{◌+◌, ◌≤◌, vec_capacity, vec_len};
+    ghost use Rattle.std.specs.Prelude.{◌+◌, ◌*◌, ◌≤◌};
     ghost use Rattle.turn_cell.specs.Seats.{seat_claims, seat_view};
     ghost use Rattle.turn_cell.specs.Stakes.{total};
     ghost use Rattle.range_core.specs.BlockTruth.{is_gone};
@@ -80,7 +81,7 @@ impl Model for Range {
 
     ghost view = { λ r. range_view r.geometry r.mode r.first r.cells.items r.log.items r.cookie r.errors r.tickets (seat_view r.seat) (seat_claims r.seat).facts };
 
-    ghost invariant = { λ r. IsSound (range_view r.geometry r.mode r.first r.cells.items r.log.items r.cookie r.errors r.tickets (seat_view r.seat) (seat_claims r.seat).facts) × (vec_len r.log + total is_gone r.cells.items ≤ vec_capacity r.log) };
+    ghost invariant = { λ r. IsSound (range_view r.geometry r.mode r.first r.cells.items r.log.items r.cookie r.errors r.tickets (seat_view r.seat) (seat_claims r.seat).facts) × (r.log.used + 2 * total is_gone r.cells.items ≤ r.log.capacity) };
 }
 
 impl Range {
@@ -121,7 +122,7 @@ impl Range {
             mode,
             first,
             cells,
-            log: Vec::new(alloc),
+            log: StampLog::new(alloc),
             cookie,
             errors: 0,
             tickets: 0,
@@ -156,9 +157,9 @@ impl Range {
             tickets: _,
             seat,
         } = self;
-        let alloc = *log.allocator();
+        let alloc = log.allocator();
         let extents = merge_kinds(alloc, first, cells.as_slice())?;
-        let blocks = end_blocks(alloc, first, cells, log.as_slice())?;
+        let blocks = end_blocks(alloc, first, cells, &log)?;
         Ok(RangeEnd {
             extents: Items::from_vec(extents),
             blocks: Items::from_vec(blocks),

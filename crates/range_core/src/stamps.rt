@@ -1,9 +1,12 @@
 //! The stamps that events leave, and where they go at the end.
-ghost use Rattle.std.specs.Prelude.{◌≡◌, ◌+◌, ◌<◌, ◌≤◌, ◌++◌, ◌^◌, All, IfOk, OnOk, length, map, vec_len, vec_capacity};
+ghost use Rattle.std.specs.Prelude.{◌≡◌, ◌<◌, All, IfOk, OnOk, length, map, vec_len};
 ghost use Rattle.range_core.specs.RangeView.{IsOfRange};
+ghost use Rattle.range_core.specs.StampRuns.{expanded};
 ghost use Rattle.range_core.specs.Stamps.{bare_end, done_by, journaled, stamp_added, stamps_from};
 
 use crate::cell::Cell;
+use crate::log::StampLog;
+use crate::stamp_run::StampRun;
 use io_model::BlockEnd;
 use iob_base::{Items, Mark, Stamp, Tag};
 use std::alloc::{AllocError, Global};
@@ -19,31 +22,18 @@ pub(crate) fn stamp_done(by: Tag) -> Stamp
     }
 }
 
-/// Adds one stamp for each of `n` blocks from `block` on. There is room.
-pub(crate) fn add_stamps(log: &mut Vec<(u64, Stamp)>, block: u64, n: usize, stamp: Stamp)
-    requires room { vec_len log.old + n ≤ vec_capacity log.old }
-    requires fits { block + n < 2 ^ 64 }
-    ensures items { log.new.items ≡ log.old.items ++ stamps_from block n stamp }
-    ensures len { vec_len log.new ≡ vec_len log.old + n }
-    ensures kept { vec_capacity log.new ≡ vec_capacity log.old }
-{
-    for i in 0..n {
-        log.push_reserved((block + i as u64, stamp));
-    }
-}
-
 /// The ends of these blocks, with the stamps that the log has for each.
 pub(crate) fn end_blocks(
     alloc: Global,
     first: u64,
     cells: Vec<Cell>,
-    log: &[(u64, Stamp)],
+    log: &StampLog,
 ) -> Result<Vec<BlockEnd>, AllocError>
-    requires { All (IsOfRange first (length cells.items)) log.now }
-    ensures { IfOk result (λ ends. ends.items ≡ journaled first log.now (map bare_end cells.items)) }
+    requires { All (IsOfRange first (length cells.items)) log.now.items }
+    ensures { IfOk result (λ ends. ends.items ≡ journaled first log.now.items (map bare_end cells.items)) }
 {
     let mut ends = bare_ends(alloc, cells)?;
-    write_journals(&mut ends, first, log)?;
+    write_journals(&mut ends, first, log.runs())?;
     Ok(ends)
 }
 
@@ -73,17 +63,24 @@ fn end_of(alloc: Global, cell: Cell) -> BlockEnd
     }
 }
 
-fn write_journals(
-    ends: &mut Vec<BlockEnd>,
-    first: u64,
-    log: &[(u64, Stamp)],
-) -> Result<(), AllocError>
-    requires { All (IsOfRange first (length ends.old.items)) log.now }
-    ensures { OnOk result (ends.new.items ≡ journaled first log.now ends.old.items) }
+fn write_journals(ends: &mut Vec<BlockEnd>, first: u64, runs: &[StampRun]) -> Result<(), AllocError>
+    requires { All (IsOfRange first (length ends.old.items)) (expanded runs.now) }
+    ensures { OnOk result (ends.new.items ≡ journaled first (expanded runs.now) ends.old.items) }
 {
-    for entry in log {
-        let (block, stamp) = *entry;
-        write_stamp(ends, (block - first) as usize, stamp)?;
+    for run in runs {
+        write_run(ends, first, *run)?;
+    }
+    Ok(())
+}
+
+/// Adds the stamp of a run to the journal of each of its blocks.
+fn write_run(ends: &mut Vec<BlockEnd>, first: u64, stamped: StampRun) -> Result<(), AllocError>
+    requires { All (IsOfRange first (length ends.old.items)) (stamps_from stamped.first stamped.count stamped.stamp) }
+    ensures { OnOk result (ends.new.items ≡ journaled first (stamps_from stamped.first stamped.count stamped.stamp) ends.old.items) }
+{
+    for i in 0..stamped.count {
+        let at = stamped.first - first + i;
+        write_stamp(ends, at as usize, stamped.stamp)?;
     }
     Ok(())
 }

@@ -44,7 +44,7 @@ impl Range {
         if let Some(fault) = worn_stop(self.cookie, taken) {
             return Err(fault);
         }
-        let Ok(mut sectors) = Vec::with_capacity(*self.log.allocator(), taken as usize) else {
+        let Ok(mut sectors) = Vec::with_capacity(self.log.allocator(), taken as usize) else {
             return Err(EventFault::NoMemory);
         };
         take_at(rt, space, &mut self.seat, taken, &mut sectors);
@@ -85,7 +85,7 @@ impl Range {
         if let Some(fault) = worn_stop(self.cookie, taken) {
             return Err(fault);
         }
-        let Ok(mut sectors) = Vec::with_capacity(*self.log.allocator(), taken as usize) else {
+        let Ok(mut sectors) = Vec::with_capacity(self.log.allocator(), taken as usize) else {
             return Err(EventFault::NoMemory);
         };
         let holes = count_run(&IsEmpty {}, &self.cells, low, blocks as usize);

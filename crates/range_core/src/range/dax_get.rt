@@ -17,7 +17,7 @@ use crate::cookie::stale_stop;
 use crate::fault::EventFault;
 use crate::parts::{BlockPart, ByteRun, block_part, byte_run};
 use crate::sample::Sample;
-use crate::stamps::{add_stamps, stamp_done};
+use crate::stamps::stamp_done;
 use fault_device::{Done, Lane};
 use iob_base::Tag;
 use iov_iter::IovIter;
@@ -150,7 +150,7 @@ impl Range {
             return Err(fault);
         }
         let run = byte_run(&self.geometry, from, to);
-        let Ok(()) = self.log.reserve(run.blocks + self.cells.len()) else {
+        let Ok(()) = self.log.reserve(self.cells.len()) else {
             return Err(EventFault::NoMemory);
         };
         if let Err(done) = ask(judge, is_mapped_kind(seen.extent.kind), run.blocks as u32) {
@@ -159,7 +159,7 @@ impl Range {
         let blank = [0u8; 4096];
         let size = self.geometry.block_size() as usize;
         copy_through(&self.cells, self.first, run, &blank[..size], iov);
-        add_stamps(&mut self.log, run.first, run.blocks, stamp_done(by));
+        self.log.add(run.first, run.blocks, stamp_done(by));
         Ok(())
     }
 }

@@ -27,7 +27,7 @@ use crate::parts::{BlockPart, ByteRun, block_part, byte_run};
 use crate::place::{IsEmpty, count_run, place_run};
 use crate::sample::Sample;
 use crate::space::{reserve_at, take_at, unreserve_at};
-use crate::stamps::{add_stamps, stamp_done};
+use crate::stamps::stamp_done;
 use fault_device::{Done, Lane};
 use io_model::Kind;
 use iob_base::Tag;
@@ -223,17 +223,17 @@ impl Range {
         }
         let low = (run.first - self.first) as usize;
         let holes = count_run(&IsEmpty {}, &self.cells, low, run.blocks);
-        let Ok(()) = self.log.reserve(run.blocks + self.cells.len()) else {
+        let Ok(()) = self.log.reserve(self.cells.len()) else {
             return Err(EventFault::NoMemory);
         };
-        let Ok(mut sectors) = Vec::with_capacity(*self.log.allocator(), holes as usize) else {
+        let Ok(mut sectors) = Vec::with_capacity(self.log.allocator(), holes as usize) else {
             return Err(EventFault::NoMemory);
         };
         reserve_judged(rt, space, &mut self.seat, holes, judge, run.blocks as u32)?;
         take_at(rt, space, &mut self.seat, holes, &mut sectors);
         place_run(&IsEmpty {}, &mut self.cells, low, run.blocks, sectors);
         put_run(&mut self.cells, self.first, run, iov);
-        add_stamps(&mut self.log, run.first, run.blocks, stamp_done(by));
+        self.log.add(run.first, run.blocks, stamp_done(by));
         self.cookie = next_cookie(self.cookie, changed);
         Ok(())
     }

@@ -18,7 +18,7 @@ use crate::dax_bytes::clear_sector;
 use crate::fault::EventFault;
 use crate::parts::{BlockPart, ByteRun, block_part, byte_run};
 use crate::sample::Sample;
-use crate::stamps::{add_stamps, stamp_done};
+use crate::stamps::stamp_done;
 use fault_device::{Done, Lane};
 use iob_base::Tag;
 use space_pool::SpacePool;
@@ -133,14 +133,14 @@ impl Range {
         if let Some(fault) = stale_stop(self.cookie, seen) {
             return Err(fault);
         }
-        let Ok(()) = self.log.reserve(run.blocks + self.cells.len()) else {
+        let Ok(()) = self.log.reserve(self.cells.len()) else {
             return Err(EventFault::NoMemory);
         };
         if let Err(done) = ask(judge, is_mapped_kind(seen.extent.kind), run.blocks as u32) {
             return Err(EventFault::Poison { done });
         }
         clear_through(&mut self.cells, self.first, run);
-        add_stamps(&mut self.log, run.first, run.blocks, stamp_done(by));
+        self.log.add(run.first, run.blocks, stamp_done(by));
         Ok(())
     }
 }

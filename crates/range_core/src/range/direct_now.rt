@@ -18,7 +18,7 @@ use crate::fault::EventFault;
 use crate::fresh::zero_bytes;
 use crate::lending::Pages;
 use crate::run::run_at;
-use crate::stamps::{add_stamps, stamp_done};
+use crate::stamps::stamp_done;
 use crate::stops::{IsAway, IsDirty, first_stop};
 use fault_device::{Done, Lane};
 use io_model::Kind;
@@ -213,7 +213,7 @@ impl Range {
             return Err(fault);
         }
         let n = now_run(&self.cells, at, pages.len());
-        let Ok(()) = self.log.reserve(n + self.cells.len()) else {
+        let Ok(()) = self.log.reserve(self.cells.len()) else {
             return Err(EventFault::NoMemory);
         };
         if let Err(done) = ask(judge, is_mapped_kind(self.cells[at].kind), n as u32) {
@@ -222,7 +222,7 @@ impl Range {
         let size = self.geometry.block_size();
         fill_pages(size, &self.cells, at, n, pages.as_mut_slice());
         drop_mapped_run(&mut self.cells, at, n);
-        add_stamps(&mut self.log, block, n, stamp_done(by));
+        self.log.add(block, n, stamp_done(by));
         Ok(n as u64)
     }
 }

@@ -10,7 +10,7 @@ use crate::claims::Claims;
 use crate::fault::EventFault;
 use crate::paging::{NeedsPage, give_pages};
 use crate::parts::{BlockPart, ByteRun, block_part, byte_run};
-use crate::stamps::{add_stamps, stamp_done};
+use crate::stamps::stamp_done;
 use crate::stops::{IsAwayWithPage, IsCold, first_stop};
 use iob_base::Tag;
 use iov_iter::IovIter;
@@ -68,10 +68,10 @@ impl Range {
         ensures state { OnOk result (self.new ≡ after_bytes (fill_each run) self.old by run) }
         ensures bytes { OnOk result (iov.new ≡ written_on (cached_run self.new run) iov.old) }
     {
-        let Ok(()) = self.log.reserve(run.blocks + self.cells.len()) else {
+        let Ok(()) = self.log.reserve(self.cells.len()) else {
             return Err(EventFault::NoMemory);
         };
-        let alloc = *self.log.allocator();
+        let alloc = self.log.allocator();
         let low = (run.first - self.first) as usize;
         let Ok(()) = give_pages(
             alloc,
@@ -84,7 +84,7 @@ impl Range {
             return Err(EventFault::NoMemory);
         };
         copy_run(&self.cells, self.first, run, iov);
-        add_stamps(&mut self.log, run.first, run.blocks, stamp_done(by));
+        self.log.add(run.first, run.blocks, stamp_done(by));
         Ok(())
     }
 

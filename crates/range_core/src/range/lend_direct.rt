@@ -19,8 +19,9 @@ use crate::fault::EventFault;
 use crate::fresh::zero_bytes;
 use crate::lend::{bring_home, lend_blocks, mark_run_written};
 use crate::lending::{Away, Lender, Lent};
+use crate::log::StampLog;
 use crate::sample::Sample;
-use crate::stamps::{add_stamps, stamp_done};
+use crate::stamps::stamp_done;
 use crate::stops::{IsAway, IsDirty, first_stop};
 use fault_device::Done;
 use io_model::Kind;
@@ -123,32 +124,25 @@ fn may_land(op: Op, kind: Kind) -> bool
     }
 }
 
-/// Adds the stamps of a transfer of `n` blocks that came back. There is room.
-fn stamp_back(
-    log: &mut Vec<(u64, Stamp)>,
-    by: Tag,
-    op: Op,
-    block: u64,
-    kind: Kind,
-    n: usize,
-    done: Done,
-)
-    requires room { vec_len log.old + n ≤ vec_capacity log.old }
+/// Adds the stamps of a transfer of `n` blocks that came back. There is room for two runs.
+fn stamp_back(log: &mut StampLog, by: Tag, op: Op, block: u64, kind: Kind, n: usize, done: Done)
+    requires room { log.old.used + 2 ≤ log.old.capacity }
     requires fits { block + n < 2 ^ 64 }
     requires landed { done.landed ≤ n }
     ensures items { log.new.items ≡ log.old.items ++ direct_stamps by op block kind n done }
-    ensures kept { vec_capacity log.new ≡ vec_capacity log.old }
+    ensures few { log.new.used ≤ log.old.used + 2 }
+    ensures kept { log.new.capacity ≡ log.old.capacity }
 {
     if !done.failed {
-        return add_stamps(log, block, n, stamp_done(by));
+        return log.add(block, n, stamp_done(by));
     }
     if !may_land(op, kind) {
-        return add_stamps(log, block, n, stamp_failed(by, Mark::Missed));
+        return log.add(block, n, stamp_failed(by, Mark::Missed));
     }
     let landed = done.landed as usize;
-    add_stamps(log, block, landed, stamp_failed(by, Mark::Landed));
+    log.add(block, landed, stamp_failed(by, Mark::Landed));
     let rest = block + landed as u64;
-    add_stamps(log, rest, n - landed, stamp_failed(by, Mark::Missed));
+    log.add(rest, n - landed, stamp_failed(by, Mark::Missed));
 }
 
 impl Range {
@@ -221,14 +215,14 @@ impl Range {
         if let Some(fault) = self.direct_stop(seen, op, block, pages.len()) {
             return Err(DirectRefused { fault, pages });
         }
-        let Ok(()) = self.log.reserve(pages.len() + self.cells.len()) else {
+        let Ok(()) = self.log.reserve(self.cells.len()) else {
             return Err(DirectRefused {
                 fault: EventFault::NoMemory,
                 pages,
             });
         };
         if !is_lent(op, seen.extent.kind) {
-            add_stamps(&mut self.log, block, pages.len(), stamp_done(by));
+            self.log.add(block, pages.len(), stamp_done(by));
             return Ok(Direct::Zeros(zero_pages(pages)));
         }
         let away = Away {

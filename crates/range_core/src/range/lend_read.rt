@@ -173,7 +173,7 @@ impl Range {
                 parts,
             });
         };
-        let alloc = *self.log.allocator();
+        let alloc = self.log.allocator();
         let Ok(()) = add_pages(alloc, self.geometry.block_size(), n, &mut parts) else {
             return Err(LendRefused {
                 fault: EventFault::NoMemory,

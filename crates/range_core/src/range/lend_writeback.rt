@@ -238,7 +238,7 @@ impl Range {
                 parts,
             });
         };
-        let alloc = *self.log.allocator();
+        let alloc = self.log.allocator();
         let Ok(()) = add_copies(alloc, &self.cells, low, n, &mut parts) else {
             return Err(LendRefused {
                 fault: EventFault::NoMemory,

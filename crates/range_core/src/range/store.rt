@@ -14,7 +14,7 @@ use crate::fault::EventFault;
 use crate::paging::{NeedsPage, give_pages};
 use crate::parts::{BlockPart, ByteRun, block_part, byte_run, is_in_part};
 use crate::sample::Sample;
-use crate::stamps::{add_stamps, stamp_done};
+use crate::stamps::stamp_done;
 use crate::stops::{Hinders, IsAwayWithPage, first_stop, is_cold_block};
 use iob_base::{Items, Page, Tag};
 use iov_iter::IovIter;
@@ -116,10 +116,10 @@ impl Range {
         ensures state { OnOk result (self.new ≡ after_bytes (stored run (next_bytes iov.old (run.to - run.from))) self.old by run) }
         ensures moved { OnOk result (iov.new ≡ past iov.old (run.to - run.from)) }
     {
-        let Ok(()) = self.log.reserve(run.blocks + self.cells.len()) else {
+        let Ok(()) = self.log.reserve(self.cells.len()) else {
             return Err(EventFault::NoMemory);
         };
-        let alloc = *self.log.allocator();
+        let alloc = self.log.allocator();
         let low = (run.first - self.first) as usize;
         let Ok(()) = give_pages(
             alloc,
@@ -132,7 +132,7 @@ impl Range {
             return Err(EventFault::NoMemory);
         };
         store_run(&mut self.cells, self.first, run, iov);
-        add_stamps(&mut self.log, run.first, run.blocks, stamp_done(by));
+        self.log.add(run.first, run.blocks, stamp_done(by));
         Ok(())
     }
 

@@ -14,7 +14,7 @@ use crate::fault::EventFault;
 use crate::paging::{NeedsPageForZeros, give_pages, is_zero};
 use crate::parts::{BlockPart, ByteRun, block_part, byte_run};
 use crate::sample::Sample;
-use crate::stamps::{add_stamps, stamp_done};
+use crate::stamps::stamp_done;
 use iob_base::{Items, Page, Tag};
 use turn_cell::Change;
 
@@ -70,17 +70,17 @@ impl Range {
         ensures unchanged { OnErr result (self.new ≡ self.old) }
         ensures state { OnOk result (self.new ≡ after_bytes (zeroed run) self.old by run) }
     {
-        let Ok(()) = self.log.reserve(run.blocks + self.cells.len()) else {
+        let Ok(()) = self.log.reserve(self.cells.len()) else {
             return Err(EventFault::NoMemory);
         };
-        let alloc = *self.log.allocator();
+        let alloc = self.log.allocator();
         let low = (run.first - self.first) as usize;
         let needs = &NeedsPageForZeros {};
         let Ok(()) = give_pages(alloc, run.size, needs, &mut self.cells, low, run.blocks) else {
             return Err(EventFault::NoMemory);
         };
         clear_run(&mut self.cells, self.first, run);
-        add_stamps(&mut self.log, run.first, run.blocks, stamp_done(by));
+        self.log.add(run.first, run.blocks, stamp_done(by));
         Ok(())
     }
 

@@ -12,7 +12,7 @@ use crate::cookie::{next_cookie, worn_stop};
 use crate::fault::EventFault;
 use crate::place::{IsPromised, IsUsed, count_run};
 use crate::space::give_back;
-use crate::stamps::{add_stamps, stamp_done};
+use crate::stamps::stamp_done;
 use crate::stops::{IsAway, first_stop};
 use io_model::Kind;
 use iob_base::{Sector, Tag};
@@ -96,16 +96,16 @@ impl Range {
         if let Some(fault) = self.wipe_stop(block, blocks, changed) {
             return Err(fault);
         }
-        let Ok(()) = self.log.reserve(n + self.cells.len()) else {
+        let Ok(()) = self.log.reserve(self.cells.len()) else {
             return Err(EventFault::NoMemory);
         };
-        let Ok(mut sectors) = Vec::with_capacity(*self.log.allocator(), n) else {
+        let Ok(mut sectors) = Vec::with_capacity(self.log.allocator(), n) else {
             return Err(EventFault::NoMemory);
         };
         let promised = count_run(&IsPromised {}, &self.cells, low, n);
         wipe_run(&mut self.cells, low, n, &mut sectors);
         give_back(rt, space, &mut self.seat, &mut sectors, promised);
-        add_stamps(&mut self.log, block, n, stamp_done(by));
+        self.log.add(block, n, stamp_done(by));
         self.cookie = next_cookie(self.cookie, changed);
         Ok(changed)
     }

@@ -1,4 +1,4 @@
-use Rattle.std.proofs.Common.{◌≡◌, ℕ, ◌+◌, ◌-◌, length, List, sym, ◌∙◌, ap, subst, arith, ◌++◌, ◌&&◌, length-append}
+use Rattle.std.proofs.Common.{◌≡◌, ℕ, ◌+◌, ◌-◌, length, List, sym, ◌∙◌, ap, subst, arith, ◌++◌, ◌&&◌}
 use Rattle.turn_cell.specs.Seats.{seat_claims, seat_view}
 use Rattle.turn_cell.specs.Stakes.{total}
 use Rattle.iob_base.specs.declared.sector.Page.{Page}
@@ -15,7 +15,7 @@ use Rattle.range_core.specs.Returning.{ComesBack}
 use Rattle.range_core.specs.declared.cell.Cell.{Cell}
 use Rattle.range_core.specs.declared.lending.Lender.{Lender}
 use Rattle.range_core.specs.declared.lending.Lender.TheVariants.{Direct}
-use Rattle.range_core.proofs.DirectBackLemmas.{IsBackRun, back_kind, back_rest, back_run, back_sound, length-back_stamps, pages_kept}
+use Rattle.range_core.proofs.DirectBackLemmas.{IsBackRun, back_kind, back_rest, back_run, back_sound, pages_kept}
 use Rattle.range_core.proofs.OnRunLemmas.{length-on_each, on_each-twice}
 use Rattle.range_core.proofs.range.Range.direct_back.Goals as goal
 
@@ -43,7 +43,8 @@ stamp_back-requires-clause-room c =
     let run : IsBackRun view c.args.back c.args.done = back_run view c.args.claims.now lender c.args.op c.args.back c.args.done comes in
     let rest = back_rest view c.args.claims.now lender c.args.op c.args.back c.args.done comes c.args.done.failed in
     let room = c.self.invariant.1 in
-    omega (arith, c.len-n.ensures.count)
+    let some = run.some in
+    omega arith
 
 pub stamp_back-requires-clause-landed : goal.stamp_back-requires-clause-landed
 stamp_back-requires-clause-landed c =
@@ -90,10 +91,9 @@ invariant_of-self c =
     let rest = back_rest view c.args.claims.now lender c.args.op c.args.back c.args.done comes c.args.done.failed in
     let gone : total is_gone c.end_run.new.cells.items ≡ total is_gone now = ap (total is_gone) cells in
     let room = c.self.invariant.1 in
-    let len = length-back_stamps c.args.by c.args.op c.args.back.block c.index.result.now.kind n c.args.done run.landed in
-    let more = simp length-append at (ap length log) in (
+    let some = run.some in (
       subst S (sym cells) (back_sound view c.args.claims.now lender c.args.op c.args.back c.args.done comes c.args.by c.index.result.now.kind _ _ c.self.invariant.0 log),
-      omega (arith, c.stamp_back.ensures.kept, c.stamp_back.new.log.ok.0, c.self.inside.log.ok.0),
+      omega (arith, c.stamp_back.ensures.few, c.stamp_back.ensures.kept),
     )
 
 pub returns-clause-state : goal.returns-clause-state

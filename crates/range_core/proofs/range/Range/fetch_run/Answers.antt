@@ -6,9 +6,10 @@ use Rattle.range_core.specs.Paging.{HavePages, fill_each, HasWholePage, lacks_pa
 use Rattle.range_core.specs.RangeView.{RangeView, range_view}
 use Rattle.range_core.specs.Stamps.{done_by, stamps_from}
 use Rattle.range_core.specs.declared.cell.Cell.{Cell}
-use Rattle.range_core.proofs.KeptPlaces.{kept_room, kept_sound}
+use Rattle.range_core.proofs.KeptPlaces.{kept_sound}
 use Rattle.range_core.proofs.OnRunLemmas.{length-on_each}
 use Rattle.range_core.proofs.PagingLemmas.{filled_keeps, filled_pages}
+use Rattle.range_core.proofs.SoundLemmas.{room_for_returns}
 use Rattle.range_core.proofs.range.Range.fetch_run.Goals as goal
 
 pub copy_run-requires-clause-high : goal.copy_run-requires-clause-high
@@ -29,9 +30,9 @@ copy_run-requires-clause-pages c =
     subst P (sym c.in-Ok-give_pages.ensures.filled) (filled_pages c.args.run (c.args.run.first - r.first) r.cells.items (subst S size (subst W (sym c.self.view_is) c.requires.pages)))
 
 -- the stamps that the log has in the end
-log_is : (c : goal.After-add_stamps) → c.add_stamps.new.log.items ≡ c.self.inside.log.items ++ stamps_from c.args.run.first c.args.run.blocks (done_by c.args.by)
+log_is : (c : goal.After-add) → c.add.new.self.items ≡ c.self.inside.log.items ++ stamps_from c.args.run.first c.args.run.blocks (done_by c.args.by)
 log_is c =
-    c.add_stamps.ensures.items ∙ ap (λ (st : Stamp). c.reserve.new.self.items ++ stamps_from c.args.run.first c.args.run.blocks st) c.stamp_done.ensures
+    c.add.ensures.items ∙ ap (λ (st : Stamp). c.reserve.new.self.items ++ stamps_from c.args.run.first c.args.run.blocks st) c.stamp_done.ensures
     ∙ ap (λ l. l ++ stamps_from c.args.run.first c.args.run.blocks (done_by c.args.by)) c.reserve.ensures.items
 
 pub invariant_of-self-2 : goal.invariant_of-self-2
@@ -43,8 +44,8 @@ invariant_of-self-2 c =
     let is : was ≡ c.args.self.now = c.self.view_is in
     let first : r.first ≤ c.args.run.first = (let V : RangeView → Type 0 = λ v. v.first ≤ c.args.run.first in subst V (sym is) c.requires.run.lies.low) in
     let last : c.args.run.first + n ≤ r.first + length r.cells.items = (let V : RangeView → Type 0 = λ v. c.args.run.first + n ≤ v.first + length v.cells in subst V (sym is) c.requires.run.lies.high) in (
-      kept_sound (fill_each c.args.run) (filled_keeps lacks_page c.args.run.size) was c.args.run.first n low (done_by c.args.by) c.give_pages.new.cells.items c.add_stamps.new.log.items r.cookie r.errors r.tickets (seat_view r.seat) c.self.invariant.0 first last c.in-Ok-give_pages.ensures.filled (log_is c),
-      kept_room (fill_each c.args.run) (filled_keeps lacks_page c.args.run.size) low n _ _ _ r.cells.items c.give_pages.new.cells.items c.in-Ok-give_pages.ensures.filled c.add_stamps.ensures.len (omega (arith, c.in-Ok.ensures.ok, c.add_stamps.ensures.kept, c.len.ensures, r.cells.ok.0)),
+      kept_sound (fill_each c.args.run) (filled_keeps lacks_page c.args.run.size) was c.args.run.first n low (done_by c.args.by) c.give_pages.new.cells.items c.add.new.self.items r.cookie r.errors r.tickets (seat_view r.seat) c.self.invariant.0 first last c.in-Ok-give_pages.ensures.filled (log_is c),
+      room_for_returns _ _ _ _ c.give_pages.new.cells.items (ap length c.in-Ok-give_pages.ensures.filled ∙ length-on_each (fill_each c.args.run) 0 low n r.cells.items) c.add.ensures.few (omega (arith, c.in-Ok.ensures.ok, c.add.ensures.kept, c.len.ensures, r.cells.ok.0)),
     )
 
 pub returns-clause-state : goal.returns-clause-state

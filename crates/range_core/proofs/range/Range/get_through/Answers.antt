@@ -27,6 +27,6 @@ invariant_of-self-2 g c =
     let few : total is_gone r.cells.items ≤ length r.cells.items = gone-within r.cells.items in
     let room = c.in-Ok.ensures.ok in
     let lies = run_lies view _ _ _ run c.byte_run-run.ensures.run can.bytes.lies in (
-      stamped_sound view _ _ _ _ _ c.self.invariant.0 lies c.reserve.ensures.items c.add_stamps.ensures.items,
-      omega (arith, c.add_stamps.ensures.len, c.add_stamps.ensures.kept, c.len.ensures, r.cells.ok.0),
+      stamped_sound view _ _ _ _ _ c.self.invariant.0 lies c.reserve.ensures.items c.add.ensures.items,
+      omega (arith, c.add.ensures.few, c.add.ensures.kept, c.len.ensures, r.cells.ok.0),
     )

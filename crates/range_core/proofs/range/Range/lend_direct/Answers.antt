@@ -62,7 +62,7 @@ invariant_of-self-then-not-is_lent c =
     let room = c.in-Ok.ensures.ok in
     let n : c.len-then-not-is_lent.result ≡ length pages = c.len-then-not-is_lent.ensures.pages in
     let M : ℕ → Type 0 = λ m. LiesAt view c.args.block m in (
-      stamped_sound view _ _ _ _ _ c.self.invariant.0 (subst M (sym n) lies) c.reserve.ensures.items c.add_stamps.ensures.items,
+      stamped_sound view _ _ _ _ _ c.self.invariant.0 (subst M (sym n) lies) c.reserve.ensures.items c.add.ensures.items,
       omega arith,
     )
 

@@ -39,7 +39,7 @@ invariant_of-result c =
         logged = subst L (sym c.new.ensures.items) (All-nil (IsOfRange c.args.first (length c.in_ok-cells.cells.items)));
         space = subst S (sym are) (first_space size c.args.first c.args.blocks c.args.extents.items c.args.sectors.items space c.args.cookie c.requires);
       },
-      omega (arith, gone, c.new.ensures.len),
+      omega (arith, gone, c.new.ensures.used),
     )
 
 pub returns-clause-truth : goal.returns-clause-truth

@@ -108,11 +108,11 @@ invariant_of-self-2 g c =
     let N : ByteRun → Type 0 = λ b. HasNext c.args.iov.now (b.to - b.from) in
     let room : N run = subst N (sym c.byte_run-run.ensures.run) can.room in
     let bytes : List ℕ = next_bytes c.args.iov.now (run.to - run.from) in
-    let log : c.add_stamps.new.log.items ≡ r.log.items ++ stamps_from run.first n c.stamp_done.result = c.add_stamps.ensures.items ∙ ap (λ l. l ++ stamps_from run.first n c.stamp_done.result) c.reserve.ensures.items in
+    let log : c.add.new.self.items ≡ r.log.items ++ stamps_from run.first n c.stamp_done.result = c.add.ensures.items ∙ ap (λ l. l ++ stamps_from run.first n c.stamp_done.result) c.reserve.ensures.items in
     let gone : total is_gone c.put_run.new.cells.items ≡ total is_gone was =
     ap (total is_gone) c.put_run.ensures.cells ∙ put_gone run bytes low n placed ∙ placed_gone is_empty (λ d. one_where (is_empty d)) view low n placed sectors c.place_run.ensures in (
-      put_sound run bytes between c.put_run.new.cells.items c.add_stamps.new.log.items c.stamp_done.result c.byte_run-run.ensures.met (length-next_bytes c.args.iov.now (run.to - run.from) room) size here sound c.put_run.ensures.cells log,
-      omega (arith, gone, gone-within was, c.add_stamps.ensures.len, c.add_stamps.ensures.kept, c.in-Ok.ensures.ok, c.len.ensures, r.cells.ok.0),
+      put_sound run bytes between c.put_run.new.cells.items c.add.new.self.items c.stamp_done.result c.byte_run-run.ensures.met (length-next_bytes c.args.iov.now (run.to - run.from) room) size here sound c.put_run.ensures.cells log,
+      omega (arith, gone, gone-within was, c.add.ensures.few, c.add.ensures.kept, c.in-Ok.ensures.ok, c.len.ensures, r.cells.ok.0),
     )
 
 pub returns-clause-state : goal.returns-clause-state
@@ -135,8 +135,8 @@ returns-clause-state g c =
     let bytes : List ℕ = next_bytes c.args.iov.now (run.to - run.from) in
     let cells : c.put_run.new.cells.items ≡ cells_at run =
     c.put_run.ensures.cells ∙ ap (on_each (put run bytes) 0 (run.first - r.first) run.blocks) c.place_run.ensures ∙ on_each-twice (placed_at is_empty (run.first - r.first) was sectors) (put run bytes) 0 (run.first - r.first) run.blocks was in
-    let log : c.add_stamps.new.log.items ≡ log_at run =
-    c.add_stamps.ensures.items ∙ ap (λ (st : Stamp). c.reserve.new.self.items ++ stamps_from run.first run.blocks st) c.stamp_done.ensures ∙ ap (λ l. l ++ stamps_from run.first run.blocks (done_by c.args.by)) c.reserve.ensures.items in
+    let log : c.add.new.self.items ≡ log_at run =
+    c.add.ensures.items ∙ ap (λ (st : Stamp). c.reserve.new.self.items ++ stamps_from run.first run.blocks st) c.stamp_done.ensures ∙ ap (λ l. l ++ stamps_from run.first run.blocks (done_by c.args.by)) c.reserve.ensures.items in
     let cookie = c.next_cookie-self-inside.ensures ∙ ap (λ t. r.cookie + one_where t) c.kinds_changed-changed.ensures in
     let space : (seat_claims c.take_at.new.seat).facts ≡ space_at run = c.take_at.ensures.claims ∙ ap (λ s. with_taken s sectors) (told ∙ ap (with_more claims) holes) in
     let cells_all = cells ∙ ap cells_at run_is in
@@ -148,7 +148,7 @@ returns-clause-state g c =
     let promised : PoolPlace = place_at (seat_view c.reserve_judged.new.seat) (seat_claims c.reserve_judged.new.seat).facts in
     let R : ℕ → Type 0 = λ m. TurnsFor m (ReservesAt opened m (Ok tt)) (place_at (seat_view r.seat) claims) promised in
     let T : ℕ → Type 0 = λ m. TurnsFor m (TakesAt opened m sectors) promised (place_at (seat_view c.take_at.new.seat) (seat_claims c.take_at.new.seat).facts) in
-    let after : RangeView = range_view r.geometry r.mode r.first c.put_run.new.cells.items c.add_stamps.new.log.items c.next_cookie-self-inside.result r.errors r.tickets (seat_view c.take_at.new.seat) (seat_claims c.take_at.new.seat).facts in
+    let after : RangeView = range_view r.geometry r.mode r.first c.put_run.new.cells.items c.add.new.self.items c.next_cookie-self-inside.result r.errors r.tickets (seat_view c.take_at.new.seat) (seat_claims c.take_at.new.seat).facts in
     let D : RangeView → Type 0 = λ v. PutsDax opened v c.args.by c.args.seen c.args.from c.args.to (next_bytes c.args.iov.now (c.args.to - c.args.from)) after in
     subst D c.self.view_is
     (record {

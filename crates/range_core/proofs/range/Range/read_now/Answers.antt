@@ -18,15 +18,16 @@ use Rattle.range_core.proofs.range.Range.read_now.Goals as goal
 run_is : (cells seen : List Cell) (pages : List Page) (at n most : ℕ) → n ≡ now_length (drop at seen) most → seen ≡ cells → most ≡ length pages → n ≡ now_length (drop at cells) (length pages)
 run_is cells seen pages at n most e f h = e ∙ ap (λ l. now_length (drop at l) most) f ∙ ap (now_length (drop at cells)) h
 
-pub overflow_add-n : goal.overflow_add-n
-overflow_add-n g c =
+pub add-requires-clause-fits : goal.add-requires-clause-fits
+add-requires-clause-fits g c =
     let cells : List Cell = c.self.inside.cells.items in
     let pages : List Page = c.args.pages.now.items in
     let at : ℕ = c.args.block - c.self.inside.first in
     let run = run_is cells c.deref-2.result.now pages at c.now_run-n.result c.len.result c.now_run-n.ensures c.deref-2.ensures.value c.len.ensures.value in
     let within = now_length-within (drop at cells) (length pages) in
-    let few = c.self.invariant.0.few in
-    omega (arith, run, within.0, few, length-drop at cells, c.len-2.ensures, c.self.inside.cells.ok.0)
+    let R : RangeView → Type 0 = λ v. CanReadNow v c.args.block pages in
+    let can = subst R (sym c.self.view_is) c.requires.can in
+    omega (arith, run, within.0, can.here.low, can.here.high, c.self.invariant.0.few, length-drop at cells)
 
 pub overflow_cast-n : goal.overflow_cast-n
 overflow_cast-n g c =
@@ -97,12 +98,12 @@ invariant_of-self-2 g c =
     let can = subst R (sym c.self.view_is) c.requires.can in
     let low : r.first ≤ c.args.block = can.here.low in
     let high : c.args.block + 1 ≤ r.first + length cells = can.here.high in
-    let joined : c.add_stamps.new.log.items ≡ c.reserve.new.self.items ++ stamps_from c.args.block n c.stamp_done.result = c.add_stamps.ensures.items in
+    let joined : c.add.new.self.items ≡ c.reserve.new.self.items ++ stamps_from c.args.block n c.stamp_done.result = c.add.ensures.items in
     let room = c.self.invariant.1 in
     let gone = read-gone at n cells c.drop_mapped_run.new.cells.items c.drop_mapped_run.ensures in (
-      read_sound view c.drop_mapped_run.new.cells.items c.reserve.new.self.items c.add_stamps.new.log.items c.args.block n c.stamp_done.result c.self.invariant.0 c.drop_mapped_run.ensures
+      read_sound view c.drop_mapped_run.new.cells.items c.reserve.new.self.items c.add.new.self.items c.args.block n c.stamp_done.result c.self.invariant.0 c.drop_mapped_run.ensures
           c.reserve.ensures.items joined low (omega (arith, run, within.0, low, high, length-drop at cells)),
-      omega (arith, c.add_stamps.ensures.len, c.add_stamps.ensures.kept, c.reserve.ensures.len, c.in-Ok.ensures.ok, gone, room, gone-within cells, c.self.inside.cells.ok.0),
+      omega (arith, c.add.ensures.few, c.add.ensures.kept, c.reserve.ensures.used, c.in-Ok.ensures.ok, gone, room, gone-within cells, c.self.inside.cells.ok.0),
     )
 
 pub returns-clause-shapes : goal.returns-clause-shapes

@@ -8,9 +8,10 @@ use Rattle.range_core.specs.RangeView.{RangeView, range_view}
 use Rattle.range_core.specs.Stamps.{done_by, stamps_from}
 use Rattle.range_core.specs.Stores.{next_bytes, stored}
 use Rattle.range_core.specs.declared.cell.Cell.{Cell}
-use Rattle.range_core.proofs.KeptPlaces.{kept_room, kept_sound}
+use Rattle.range_core.proofs.KeptPlaces.{kept_sound}
 use Rattle.range_core.proofs.OnRunLemmas.{length-on_each}
 use Rattle.range_core.proofs.PagingLemmas.{filled_pages}
+use Rattle.range_core.proofs.SoundLemmas.{room_for_returns}
 use Rattle.range_core.proofs.StoreLemmas.{stored_keeps, stored_twice}
 use Rattle.range_core.proofs.range.Range.store_blocks.Goals as goal
 
@@ -33,13 +34,13 @@ store_run-requires-clause-pages c =
     subst P (sym c.in-Ok-give_pages.ensures.filled) (filled_pages c.args.run (c.args.run.first - r.first) r.cells.items (subst S (sym (ap (λ x. x.size) here.is)) whole))
 
 -- the stamps that the log has in the end
-log_is : (c : goal.After-add_stamps) → c.add_stamps.new.log.items ≡ c.self.inside.log.items ++ stamps_from c.args.run.first c.args.run.blocks (done_by c.args.by)
+log_is : (c : goal.After-add) → c.add.new.self.items ≡ c.self.inside.log.items ++ stamps_from c.args.run.first c.args.run.blocks (done_by c.args.by)
 log_is c =
-    c.add_stamps.ensures.items ∙ ap (λ (st : Stamp). c.reserve.new.self.items ++ stamps_from c.args.run.first c.args.run.blocks st) c.stamp_done.ensures
+    c.add.ensures.items ∙ ap (λ (st : Stamp). c.reserve.new.self.items ++ stamps_from c.args.run.first c.args.run.blocks st) c.stamp_done.ensures
     ∙ ap (λ l. l ++ stamps_from c.args.run.first c.args.run.blocks (done_by c.args.by)) c.reserve.ensures.items
 
 -- the blocks in the end
-cells_are : (c : goal.After-add_stamps) → c.store_run.new.cells.items ≡ on_each (stored c.args.run (next_bytes c.args.iov.now (c.args.run.to - c.args.run.from))) 0 (c.args.run.first - c.self.inside.first) c.args.run.blocks c.self.inside.cells.items
+cells_are : (c : goal.After-add) → c.store_run.new.cells.items ≡ on_each (stored c.args.run (next_bytes c.args.iov.now (c.args.run.to - c.args.run.from))) 0 (c.args.run.first - c.self.inside.first) c.args.run.blocks c.self.inside.cells.items
 cells_are c = stored_twice c.args.run (next_bytes c.args.iov.now (c.args.run.to - c.args.run.from)) (c.args.run.first - c.self.inside.first) c.self.inside.cells.items c.give_pages.new.cells.items c.store_run.new.cells.items c.in-Ok-give_pages.ensures.filled c.store_run.ensures.cells
 
 pub invariant_of-self-2 : goal.invariant_of-self-2
@@ -51,8 +52,8 @@ invariant_of-self-2 c =
     let was : RangeView = range_view r.geometry r.mode r.first r.cells.items r.log.items r.cookie r.errors r.tickets (seat_view r.seat) (seat_claims r.seat).facts in
     let V : RangeView → Type 0 = λ v. IsRunIn v run in
     let here : IsRunIn was run = subst V (sym c.self.view_is) c.requires.run in (
-      kept_sound (stored run bytes) (stored_keeps run bytes) was run.first run.blocks low (done_by c.args.by) c.store_run.new.cells.items c.add_stamps.new.log.items r.cookie r.errors r.tickets (seat_view r.seat) c.self.invariant.0 here.lies.low here.lies.high (cells_are c) (log_is c),
-      kept_room (stored run bytes) (stored_keeps run bytes) low run.blocks _ _ _ r.cells.items c.store_run.new.cells.items (cells_are c) c.add_stamps.ensures.len (omega (arith, c.in-Ok.ensures.ok, c.add_stamps.ensures.kept, c.len.ensures, r.cells.ok.0)),
+      kept_sound (stored run bytes) (stored_keeps run bytes) was run.first run.blocks low (done_by c.args.by) c.store_run.new.cells.items c.add.new.self.items r.cookie r.errors r.tickets (seat_view r.seat) c.self.invariant.0 here.lies.low here.lies.high (cells_are c) (log_is c),
+      room_for_returns _ _ _ _ c.store_run.new.cells.items (ap length (cells_are c) ∙ length-on_each (stored run bytes) 0 low run.blocks r.cells.items) c.add.ensures.few (omega (arith, c.in-Ok.ensures.ok, c.add.ensures.kept, c.len.ensures, r.cells.ok.0)),
     )
 
 pub returns-clause-state : goal.returns-clause-state

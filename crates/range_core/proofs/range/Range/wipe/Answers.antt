@@ -91,13 +91,13 @@ invariant_of-self-2 g c =
     let space = subst C (sym left) (space_wiped size low n was claims sound.places f.homes sound.space) in
     let places = wiped_placed size low n was f.within f.homes sound.places in
     let stamps : List (ℕ × Stamp) = stamps_from b n (done_by c.args.by) in
-    let log : c.add_stamps.new.log.items ≡ r.log.items ++ stamps = c.add_stamps.ensures.items ∙ ap (λ l. l ++ stamps_from b n c.stamp_done.result) c.in-Ok.ensures.items ∙ ap (λ t. r.log.items ++ stamps_from b n t) c.stamp_done.ensures in
+    let log : c.add.new.self.items ≡ r.log.items ++ stamps = c.add.ensures.items ∙ ap (λ l. l ++ stamps_from b n c.stamp_done.result) c.in-Ok.ensures.items ∙ ap (λ t. r.log.items ++ stamps_from b n t) c.stamp_done.ensures in
     let stamped : All (IsOfRange r.first (length was)) stamps = stamps_from-range r.first (length was) b n (done_by c.args.by) f.low f.high in
-    let S : List Cell → Type 0 = λ cells. IsSound (range_view r.geometry r.mode r.first cells c.add_stamps.new.log.items c.next_cookie-self-inside.result r.errors r.tickets (seat_view c.give_back.new.seat) (seat_claims c.give_back.new.seat).facts) in
+    let S : List Cell → Type 0 = λ cells. IsSound (range_view r.geometry r.mode r.first cells c.add.new.self.items c.next_cookie-self-inside.result r.errors r.tickets (seat_view c.give_back.new.seat) (seat_claims c.give_back.new.seat).facts) in
     let gone : total is_gone c.wipe_run.new.cells.items ≡ total is_gone was = ap (total is_gone) c.wipe_run.ensures.cells ∙ total-on_each wipes is_gone (λ _ _. refl) 0 low n was in
     let few = gone-within was in (
-      subst S (sym c.wipe_run.ensures.cells) (sound_next view now c.add_stamps.new.log.items stamps c.next_cookie-self-inside.result r.errors r.tickets (seat_view c.give_back.new.seat) (seat_claims c.give_back.new.seat).facts sound (length-on_each wipes 0 low n was) places log stamped space),
-      omega (arith, c.add_stamps.ensures.len, c.add_stamps.ensures.kept, c.in-Ok.ensures.ok, c.len.ensures, r.cells.ok.0, gone, few),
+      subst S (sym c.wipe_run.ensures.cells) (sound_next view now c.add.new.self.items stamps c.next_cookie-self-inside.result r.errors r.tickets (seat_view c.give_back.new.seat) (seat_claims c.give_back.new.seat).facts sound (length-on_each wipes 0 low n was) places log stamped space),
+      omega (arith, c.add.ensures.few, c.add.ensures.kept, c.in-Ok.ensures.ok, c.len.ensures, r.cells.ok.0, gone, few),
     )
 
 pub returns-clause-state : goal.returns-clause-state
@@ -110,11 +110,11 @@ returns-clause-state g c =
     let claims : SpaceClaims = (seat_claims r.seat).facts in
     let seat = c.give_back.new.seat in
     let view : RangeView = range_view r.geometry r.mode r.first was r.log.items r.cookie r.errors r.tickets (seat_view r.seat) claims in
-    let after : RangeView = range_view r.geometry r.mode r.first c.wipe_run.new.cells.items c.add_stamps.new.log.items c.next_cookie-self-inside.result r.errors r.tickets (seat_view seat) (seat_claims seat).facts in
+    let after : RangeView = range_view r.geometry r.mode r.first c.wipe_run.new.cells.items c.add.new.self.items c.next_cookie-self-inside.result r.errors r.tickets (seat_view seat) (seat_claims seat).facts in
     let given : c.wipe_run.new.sectors.items ≡ sectors_of (take n (drop low was)) = c.wipe_run.ensures.sectors in
     let changed : c.count_run-changed.result ≡ count_on is_used low n was = c.count_run-changed.ensures.count ∙ ap (count_on is_used low n) c.deref.ensures.value in
     let promised : c.count_run-promised.result ≡ count_on is_promised low n was = c.count_run-promised.ensures.count ∙ ap (count_on is_promised low n) c.deref-2.ensures.value in
-    let log : c.add_stamps.new.log.items ≡ r.log.items ++ stamps_from b n (done_by c.args.by) = c.add_stamps.ensures.items ∙ ap (λ l. l ++ stamps_from b n c.stamp_done.result) c.in-Ok.ensures.items ∙ ap (λ t. r.log.items ++ stamps_from b n t) c.stamp_done.ensures in
+    let log : c.add.new.self.items ≡ r.log.items ++ stamps_from b n (done_by c.args.by) = c.add.ensures.items ∙ ap (λ l. l ++ stamps_from b n c.stamp_done.result) c.in-Ok.ensures.items ∙ ap (λ t. r.log.items ++ stamps_from b n t) c.stamp_done.ensures in
     let cookie : c.next_cookie-self-inside.result ≡ r.cookie + one_where (nat_lt 0 (count_on is_used low n was)) = c.next_cookie-self-inside.ensures ∙ ap (λ k. r.cookie + one_where (nat_lt 0 k)) changed in
     let space : (seat_claims seat).facts ≡ with_fewer (with_given claims (sectors_of (take n (drop low was)))) (count_on is_promised low n was) =
     c.give_back.ensures.claims ∙ ap (λ xs. with_fewer (with_given claims xs) c.count_run-promised.result) given ∙ ap (with_fewer (with_given claims (sectors_of (take n (drop low was))))) promised in

@@ -8,8 +8,9 @@ use Rattle.range_core.specs.RangeView.{RangeView, range_view}
 use Rattle.range_core.specs.Stamps.{done_by, stamps_from}
 use Rattle.range_core.specs.StoreZeros.{HavePagesForZeros, zeroed}
 use Rattle.range_core.specs.declared.cell.Cell.{Cell}
-use Rattle.range_core.proofs.KeptPlaces.{kept_room, kept_sound}
+use Rattle.range_core.proofs.KeptPlaces.{kept_sound}
 use Rattle.range_core.proofs.OnRunLemmas.{length-on_each}
+use Rattle.range_core.proofs.SoundLemmas.{room_for_returns}
 use Rattle.range_core.proofs.StoreZerosLemmas.{pages_for_zeros, zeroed_keeps, zeroed_twice}
 use Rattle.range_core.proofs.range.Range.zero_blocks.Goals as goal
 
@@ -35,13 +36,13 @@ clear_run-requires-clause-pages c =
     subst P (sym c.in-Ok-give_pages.ensures.filled) (pages_for_zeros c.args.run (c.args.run.first - r.first) r.cells.items (subst S (sym (ap (λ x. x.size) here.is)) whole))
 
 -- the stamps that the log has in the end
-log_is : (c : goal.After-add_stamps) → c.add_stamps.new.log.items ≡ c.self.inside.log.items ++ stamps_from c.args.run.first c.args.run.blocks (done_by c.args.by)
+log_is : (c : goal.After-add) → c.add.new.self.items ≡ c.self.inside.log.items ++ stamps_from c.args.run.first c.args.run.blocks (done_by c.args.by)
 log_is c =
-    c.add_stamps.ensures.items ∙ ap (λ (st : Stamp). c.reserve.new.self.items ++ stamps_from c.args.run.first c.args.run.blocks st) c.stamp_done.ensures
+    c.add.ensures.items ∙ ap (λ (st : Stamp). c.reserve.new.self.items ++ stamps_from c.args.run.first c.args.run.blocks st) c.stamp_done.ensures
     ∙ ap (λ l. l ++ stamps_from c.args.run.first c.args.run.blocks (done_by c.args.by)) c.reserve.ensures.items
 
 -- the blocks in the end
-cells_are : (c : goal.After-add_stamps) → c.clear_run.new.cells.items ≡ on_each (zeroed c.args.run) 0 (c.args.run.first - c.self.inside.first) c.args.run.blocks c.self.inside.cells.items
+cells_are : (c : goal.After-add) → c.clear_run.new.cells.items ≡ on_each (zeroed c.args.run) 0 (c.args.run.first - c.self.inside.first) c.args.run.blocks c.self.inside.cells.items
 cells_are c = zeroed_twice c.args.run (c.args.run.first - c.self.inside.first) c.self.inside.cells.items c.give_pages.new.cells.items c.clear_run.new.cells.items c.in-Ok-give_pages.ensures.filled c.clear_run.ensures
 
 pub invariant_of-self-2 : goal.invariant_of-self-2
@@ -52,8 +53,8 @@ invariant_of-self-2 c =
     let was : RangeView = range_view r.geometry r.mode r.first r.cells.items r.log.items r.cookie r.errors r.tickets (seat_view r.seat) (seat_claims r.seat).facts in
     let V : RangeView → Type 0 = λ v. IsRunIn v run in
     let here : IsRunIn was run = subst V (sym c.self.view_is) c.requires.run in (
-      kept_sound (zeroed run) (zeroed_keeps run) was run.first run.blocks low (done_by c.args.by) c.clear_run.new.cells.items c.add_stamps.new.log.items r.cookie r.errors r.tickets (seat_view r.seat) c.self.invariant.0 here.lies.low here.lies.high (cells_are c) (log_is c),
-      kept_room (zeroed run) (zeroed_keeps run) low run.blocks _ _ _ r.cells.items c.clear_run.new.cells.items (cells_are c) c.add_stamps.ensures.len (omega (arith, c.in-Ok.ensures.ok, c.add_stamps.ensures.kept, c.len.ensures, r.cells.ok.0)),
+      kept_sound (zeroed run) (zeroed_keeps run) was run.first run.blocks low (done_by c.args.by) c.clear_run.new.cells.items c.add.new.self.items r.cookie r.errors r.tickets (seat_view r.seat) c.self.invariant.0 here.lies.low here.lies.high (cells_are c) (log_is c),
+      room_for_returns _ _ _ _ c.clear_run.new.cells.items (ap length (cells_are c) ∙ length-on_each (zeroed run) 0 low run.blocks r.cells.items) c.add.ensures.few (omega (arith, c.in-Ok.ensures.ok, c.add.ensures.kept, c.len.ensures, r.cells.ok.0)),
     )
 
 pub returns-clause-state : goal.returns-clause-state
