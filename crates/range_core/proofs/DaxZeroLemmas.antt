@@ -1,11 +1,9 @@
 -- Zeros are laid over the sectors of a run of blocks.
-use Rattle.std.proofs.Common.{◌≡◌, ℕ, ◌+◌, ◌-◌, ◌<◌, ◌≤◌, List, ◌++◌, length, All, refl, sym, ◌∙◌, ap, subst, arith}
+use Rattle.std.proofs.Common.{◌≡◌, ℕ, ◌+◌, ◌-◌, ◌<◌, ◌≤◌, List, ◌++◌, length, All, refl, sym, ap, subst, arith}
 use Rattle.std.proofs.lemmas.List.{length-replicate}
 use Rattle.iob_base.specs.declared.stamp.Stamp.{Stamp}
 use Rattle.io_model.specs.Contents.{Content}
 use Rattle.io_model.specs.Effects.{overlay}
-use Rattle.turn_cell.specs.Stakes.{total}
-use Rattle.range_core.specs.BlockTruth.{is_gone}
 use Rattle.range_core.specs.ByteRuns.{IsByteRun, part_at}
 use Rattle.range_core.specs.Cells.{IsPlaced}
 use Rattle.range_core.specs.DaxZeros.{cleared_through, zeroed_through}
@@ -19,9 +17,9 @@ use Rattle.range_core.specs.declared.cell.Cell.{Cell}
 use Rattle.range_core.specs.declared.parts.ByteRun.{ByteRun}
 use Rattle.range_core.proofs.LayLemmas.{length-overlaid}
 use Rattle.range_core.proofs.OnRunLemmas.{length-on_each}
-use Rattle.range_core.proofs.SoundLemmas.{All-on_each_at, gone-within, sound_next, stamps_from-range}
+use Rattle.range_core.proofs.SoundLemmas.{All-on_each_at, sound_next, stamps_from-range}
 use Rattle.range_core.proofs.ThroughLemmas.{either_mapped, place-changed}
-use Rattle.range_core.proofs.ThroughTruth.{KeepsStates, gone_stay, space_stays}
+use Rattle.range_core.proofs.ThroughTruth.{KeepsStates, space_stays}
 use Rattle.range_core.proofs.StoreZerosLemmas.{zero_piece}
 
 -- zeros over a block's part are the run's zeros there

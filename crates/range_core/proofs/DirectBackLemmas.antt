@@ -1,5 +1,5 @@
 -- What is true of blocks that come back from a caller's own pages.
-use Rattle.std.proofs.Common.{◌≡◌, ℕ, zero, suc, ◌+◌, ◌-◌, ◌<◌, ◌≤◌, Bool, true, false, Option, Some, None, List, [], ◌∷◌, ◌++◌, length, map, get_or, All, refl, sym, ◌∙◌, ap, subst, arith, if◌then◌else◌, length-append}
+use Rattle.std.proofs.Common.{◌≡◌, ℕ, zero, suc, ◌+◌, ◌-◌, ◌<◌, ◌≤◌, Bool, true, false, Option, Some, None, List, [], ◌∷◌, ◌++◌, length, map, get_or, All, refl, sym, ◌∙◌, ap, subst, arith, if◌then◌else◌}
 use Rattle.std.specs.Prelude.{IfSome, IsTrue, is_some, nat_lt, slice_get}
 use Rattle.std.proofs.lemmas.List.Elements.{All-append}
 use Rattle.std.proofs.lemmas.Option.{slice_get-get_or}
@@ -116,27 +116,6 @@ back_stamps-range first blocks by op block kind n done low high few = at done.fa
     at : (t : Bool) → All (IsOfRange first blocks) (if t then failed_stamps by op block n (is_mapped kind) done.landed else stamps_from block n (done_by by))
     at true = failed op (is_mapped kind)
     at false = stamps_from-range first blocks block n (done_by by) low high
-
-length-stamps_from : (b n : ℕ) (st : Stamp) → length (stamps_from b n st) ≡ n
-length-stamps_from b zero st = refl
-length-stamps_from b (suc n) st = ap suc (length-stamps_from (b + 1) n st)
-
--- one stamp a block
-pub length-back_stamps : (by : Tag) (op : Op) (block : ℕ) (kind : Kind) (n : ℕ) (done : Done) → done.landed ≤ n → length (direct_stamps by op block kind n done) ≡ n
-length-back_stamps by op block kind n done few = at done.failed
-  where
-    failed : (op : Op) (t : Bool) → length (failed_stamps by op block n t done.landed) ≡ n
-    failed Read true = length-stamps_from block n (missed_by by)
-    failed Read false = length-stamps_from block n (missed_by by)
-    failed Write false = length-stamps_from block n (missed_by by)
-    failed Write true =
-        let a = length-stamps_from block done.landed (landed_by by) in
-        let b = length-stamps_from (block + done.landed) (n - done.landed) (missed_by by) in
-        omega (arith, length-append (stamps_from block done.landed (landed_by by)) (stamps_from (block + done.landed) (n - done.landed) (missed_by by)))
-
-    at : (t : Bool) → length (if t then failed_stamps by op block n (is_mapped kind) done.landed else stamps_from block n (done_by by)) ≡ n
-    at true = failed op (is_mapped kind)
-    at false = length-stamps_from block n (done_by by)
 
 -- a block with the sector of a part that came back
 abbrev pub back_cell : Op → Bool → Part → Cell → Cell

@@ -1,12 +1,11 @@
 -- Events that change pages and dirty bits alone: each block keeps its kind, its sector, and whether that is away.
-use Rattle.std.proofs.Common.{◌≡◌, ℕ, ◌+◌, ◌≤◌, ◌||◌, ◌&&◌, Option, List, length, ◌++◌, sym, ◌∙◌, ap, subst, arith}
+use Rattle.std.proofs.Common.{◌≡◌, ℕ, ◌+◌, ◌≤◌, ◌||◌, ◌&&◌, Option, List, length, ◌++◌, sym, ◌∙◌, ap, subst}
 use Rattle.iob_base.specs.DeviceBlock.{DeviceBlock}
 use Rattle.iob_base.specs.declared.stamp.Stamp.{Stamp}
 use Rattle.io_model.specs.declared.file.Kind.{Kind}
 use Rattle.space_pool.specs.declared.entry.PoolEntry.{PoolEntry}
 use Rattle.turn_cell.specs.Stakes.{total}
 use Rattle.turn_cell.specs.Views.{SeatView}
-use Rattle.range_core.specs.BlockTruth.{gone, is_gone}
 use Rattle.range_core.specs.Cells.{HasPlace, IsPlaced}
 use Rattle.range_core.specs.EntryCounts.{one_where}
 use Rattle.range_core.specs.Kinds.{is_delalloc, is_unwritten}
@@ -19,7 +18,7 @@ use Rattle.range_core.specs.declared.cell.Cell.{Cell}
 use Rattle.range_core.specs.declared.lending.Away.{Away}
 use Rattle.range_core.proofs.KindRuns.{kinds_of}
 use Rattle.range_core.proofs.OnRunLemmas.{All-on_each, length-on_each, map-on_each, total-on_each}
-use Rattle.range_core.proofs.SoundLemmas.{gone-within, sound_next, stamps_from-range}
+use Rattle.range_core.proofs.SoundLemmas.{sound_next, stamps_from-range}
 use Rattle.range_core.proofs.SpaceLemmas.{space_by_kinds}
 
 -- each block keeps its kind, its sector, and whether that is away
@@ -46,9 +45,6 @@ module _ (f : ℕ → Cell → Cell) (keeps : KeepsPlaces f) where
 
   pub kept_pending : (low n : ℕ) (cells : List Cell) → total pending (on_each f 0 low n cells) ≡ total pending cells
   kept_pending low n cells = total-on_each f pending kept-pending 0 low n cells
-
-  pub kept_gone : (low n : ℕ) (cells : List Cell) → total is_gone (on_each f 0 low n cells) ≡ total is_gone cells
-  kept_gone low n cells = total-on_each f is_gone (λ j c. ap gone (keeps.away j c)) 0 low n cells
 
   pub kept_space : (size low n : ℕ) (cells : List Cell) (space : SpaceClaims) → ClaimsSpace size cells space → ClaimsSpace size (on_each f 0 low n cells) space
   kept_space size low n cells space h = space_by_kinds size cells (on_each f 0 low n cells) space (kept_kinds low n cells) h

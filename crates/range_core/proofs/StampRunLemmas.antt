@@ -1,5 +1,5 @@
 -- Stamps as runs: what runs show, and when the last one is lengthened.
-use Rattle.std.proofs.Common.{◌≡◌, ℕ, zero, suc, ◌+◌, ◌-◌, ◌<◌, ◌==◌, Bool, true, false, ◌&&◌, Some, List, [], ◌∷◌, ◌++◌, length, take, get_or, set, All, refl, sym, ◌∙◌, ap, subst, arith, append-nil, append_assoc, add-zero, add-one}
+use Rattle.std.proofs.Common.{◌≡◌, ℕ, zero, suc, ◌+◌, ◌-◌, ◌<◌, ◌==◌, true, ◌&&◌, Some, List, [], ◌∷◌, ◌++◌, length, take, get_or, set, All, refl, sym, ◌∙◌, ap, subst, arith, append-nil, append_assoc, add-zero, add-one}
 use Rattle.std.proofs.Math.Seq.{take-suc}
 use Rattle.std.specs.Prelude.{slice_get}
 use Rattle.std.proofs.lemmas.Bool.{and_parts, eqb-true}

@@ -6,7 +6,7 @@ use Rattle.iob_base.specs.declared.stamp.Tag.{Tag}
 use Rattle.io_model.specs.Contents.{Content}
 use Rattle.turn_cell.specs.Stakes.{total}
 use Rattle.range_core.specs.BlockStates.{state_of}
-use Rattle.range_core.specs.BlockTruth.{FitsAway, HomeContent, IsHomeContent, IsTrueAt, gone, is_gone}
+use Rattle.range_core.specs.BlockTruth.{FitsAway, HomeContent, IsHomeContent, IsTrueAt, gone}
 use Rattle.range_core.specs.ByteRuns.{after_bytes}
 use Rattle.range_core.specs.Cells.{HasPlace}
 use Rattle.range_core.specs.ClaimsView.{ClaimsView}
@@ -65,9 +65,6 @@ module _ (f : ℕ → Cell → Cell) (keeps : KeepsStates f) where
 
   pub kinds_stay : (low n : ℕ) (cells : List Cell) → kinds_of (on_each f 0 low n cells) ≡ kinds_of cells
   kinds_stay low n cells = map-on_each f (λ (c : Cell). c.kind) keeps.kind 0 low n cells
-
-  pub gone_stay : (low n : ℕ) (cells : List Cell) → total is_gone (on_each f 0 low n cells) ≡ total is_gone cells
-  gone_stay low n cells = total-on_each f is_gone (λ j c. ap gone (keeps.away j c)) 0 low n cells
 
   pub space_stays : (size low n : ℕ) (cells : List Cell) (space : SpaceClaims) → ClaimsSpace size cells space → ClaimsSpace size (on_each f 0 low n cells) space
   space_stays size low n cells space h = space_by_kinds size cells (on_each f 0 low n cells) space (kinds_stay low n cells) h

@@ -1,6 +1,4 @@
-use Rattle.std.proofs.Common.{◌≡◌, ℕ, ◌+◌, ◌-◌, ◌==◌, ◌&&◌, List, length, get_or, sym, ◌∙◌, ap, arith}
-use Rattle.range_core.specs.StampRuns.{equal_stamps}
-use Rattle.range_core.specs.declared.stamp_run.StampRun.{StampRun}
+use Rattle.std.proofs.Common.{sym, ◌∙◌}
 use Rattle.range_core.proofs.StampRunLemmas.{goes_on-last}
 use Rattle.range_core.proofs.log.can_lengthen.Goals as goal
 

@@ -1,6 +1,5 @@
-use Rattle.std.proofs.Common.{◌≡◌, ℕ, List, All, get_or, length, sym, ◌∙◌, ap, subst}
+use Rattle.std.proofs.Common.{◌≡◌, ℕ, All, get_or, length, sym, ◌∙◌, ap, subst}
 use Rattle.iob_base.specs.declared.stamp.Mark.TheVariants.{Done}
-use Rattle.iob_base.specs.declared.stamp.Stamp.{Stamp}
 use Rattle.range_core.specs.RangeView.{IsOfRange}
 use Rattle.range_core.specs.Stamps.{stamps_from}
 use Rattle.range_core.specs.declared.stamp_run.StampRun.{StampRun}
