@@ -3,6 +3,7 @@ pub mod AfterEntry
 pub mod AfterRun
 pub mod AttachTruth
 pub mod ByteRunLemmas
+pub mod CachePages
 pub mod CellLemmas
 pub mod ChangeLemmas
 pub mod ClaimedPages

@@ -1,12 +1,13 @@
-//! Pages of the cache that have no bytes of a block yet.
+//! Pages of the cache that have no bytes of a block yet. Spare ones are taken first.
 ghost use Rattle.std.specs.Prelude.{◌≡◌, ◌≤◌, [], All, IfOk, OnErr, OnOk, length, replicate};
 ghost use Rattle.iob_base.specs.Parting.{pages_of};
-ghost use Rattle.range_core.specs.Pages.{IsCachePage, zero_page, zeroed_page};
+ghost use Rattle.range_core.specs.Pages.{IsCachePage, cache_page, zero_page, zeroed_page};
 
+use crate::spare::Spare;
 use iob_base::{Items, Page, Parts};
 use std::alloc::{AllocError, Global};
 
-/// A page of zeros of the cache. Want of memory is the only error.
+/// A page of zeros of the cache, of memory that is had for it. Want of memory is the only error.
 fn fresh_page(alloc: Global, size: u32) -> Result<Page, AllocError>
     ensures { IfOk result (λ p. p ≡ zero_page size) }
 {
@@ -17,13 +18,55 @@ fn fresh_page(alloc: Global, size: u32) -> Result<Page, AllocError>
     })
 }
 
+/// A page of the cache, with any bytes. Want of memory is the only error.
+fn any_page(alloc: Global, size: u32, spare: &mut Spare) -> Result<Page, AllocError>
+    ensures { IfOk result (IsCachePage size) }
+{
+    let Some(page) = spare.take_page(size as usize) else {
+        let page = fresh_page(alloc, size)?;
+        return Ok(page);
+    };
+    Ok(page)
+}
+
+/// A page of zeros of the cache. Want of memory is the only error.
+fn page_of_zeros(alloc: Global, size: u32, spare: &mut Spare) -> Result<Page, AllocError>
+    ensures { IfOk result (λ p. p ≡ zero_page size) }
+{
+    let Some(mut page) = spare.take_page(size as usize) else {
+        return fresh_page(alloc, size);
+    };
+    zero_bytes(&mut page);
+    Ok(page)
+}
+
+/// A snapshot of a page. Want of memory is the only error.
+pub(crate) fn copy_of(alloc: Global, page: &Page, spare: &mut Spare) -> Result<Page, AllocError>
+    ensures { IfOk result (λ copy. copy ≡ cache_page page.now.bytes) }
+{
+    let Some(mut copy) = spare.take_page(page.bytes.len()) else {
+        let bytes = Items::from_slice(alloc, page.bytes.as_slice())?;
+        return Ok(Page {
+            number: u64::MAX,
+            bytes,
+        });
+    };
+    copy.bytes.copy_from_slice(page.bytes.as_slice());
+    Ok(copy)
+}
+
 /// So many pages of zeros of the cache. Want of memory is the only error.
-pub(crate) fn fresh_pages(alloc: Global, size: u32, n: usize) -> Result<Vec<Page>, AllocError>
+pub(crate) fn pages_of_zeros(
+    alloc: Global,
+    size: u32,
+    n: usize,
+    spare: &mut Spare,
+) -> Result<Vec<Page>, AllocError>
     ensures { IfOk result (λ pages. pages.items ≡ replicate n (zero_page size)) }
 {
     let mut pages = Vec::with_capacity(alloc, n)?;
     for _ in 0..n {
-        pages.push(fresh_page(alloc, size)?)?;
+        pages.push(page_of_zeros(alloc, size, spare)?)?;
     }
     Ok(pages)
 }
@@ -34,6 +77,7 @@ pub(crate) fn add_pages(
     alloc: Global,
     size: u32,
     n: usize,
+    spare: &mut Spare,
     parts: &mut Parts,
 ) -> Result<(), AllocError>
     requires empty { parts.old ≡ [] }
@@ -43,7 +87,7 @@ pub(crate) fn add_pages(
     ensures none { OnErr result (parts.new ≡ []) }
 {
     for _ in 0..n {
-        let Ok(page) = fresh_page(alloc, size) else {
+        let Ok(page) = any_page(alloc, size, spare) else {
             parts.clear();
             return Err(AllocError);
         };

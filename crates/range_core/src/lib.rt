@@ -12,7 +12,7 @@
 //! - `open`, `merge`: blocks from extents, and extents from blocks
 //! - `stops`, `cookie`: what hinders an event
 //! - `run`, `leading`, `parts`, `place`: runs of blocks and of bytes, and which blocks of a run an event picks
-//! - `fresh`, `paging`, `dax_bytes`: pages of zeros, and the bytes of sectors
+//! - `spare`, `fresh`, `paging`, `dax_bytes`: pages that are kept, pages of the cache, and the bytes of sectors
 //! - `lend`, `space`: how sectors go out and come home, and the turns at the pool
 //! - `stamps`, `log`, `stamp_run`: what is stamped, the list of stamps, and the runs in which it is kept
 //! - `laws`: what the definitions say, tried by hand
@@ -43,6 +43,7 @@ mod range;
 mod run;
 mod sample;
 mod space;
+mod spare;
 mod stamp_run;
 mod stamps;
 mod stops;

@@ -6,7 +6,8 @@ ghost use Rattle.range_core.specs.BlockStates.{is_zero_already, state_of};
 ghost use Rattle.range_core.specs.Paging.{filled_where};
 
 use crate::cell::{Cell, is_mapped_kind};
-use crate::fresh::fresh_pages;
+use crate::fresh::pages_of_zeros;
+use crate::spare::Spare;
 use io_model::Kind;
 use std::alloc::{AllocError, Global};
 
@@ -91,17 +92,18 @@ pub(crate) fn give_pages<T: Needs>(
     cells: &mut Vec<Cell>,
     low: usize,
     blocks: usize,
+    spare: &mut Spare,
 ) -> Result<(), AllocError>
     requires { low + blocks ≤ vec_len cells.old }
     ensures filled { OnOk result (cells.new.items ≡ on_run (filled_where (T.needs test.now) size) low blocks cells.old.items) }
     ensures unchanged { OnErr result (cells.new ≡ cells.old) }
 {
     let count = count_needs(test, cells, low, blocks);
-    let mut spare = fresh_pages(alloc, size, count)?;
+    let mut stock = pages_of_zeros(alloc, size, count, spare)?;
     for i in 0..blocks {
         let cell = &mut cells[low + i];
         if test.needs(cell) {
-            cell.page = spare.pop();
+            cell.page = stock.pop();
         }
     }
     Ok(())

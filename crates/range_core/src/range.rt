@@ -26,6 +26,7 @@ use crate::end::RangeEnd;
 use crate::log::StampLog;
 use crate::merge::merge_kinds;
 use crate::open::build_cells;
+use crate::spare::Spare;
 use crate::stamps::end_blocks;
 pub use attach::{AttachRun, PreallocateRun};
 pub use dax_get::DaxGetRun;
@@ -56,7 +57,8 @@ pub use wipe::WipeRun;
 ///
 /// Each block has its sector exactly where its kind has space and no ticket has it, and each stamp is of a block of the
 /// range. The seat at the pool claims exactly the sectors of the blocks, here and away, and has reserved one for each
-/// block that has space only promised to it. There is room for two runs of stamps more for each block that is away.
+/// block that has space only promised to it. There is room for two runs of stamps more for each block that is away. At
+/// most 16 pages that blocks no more have are kept for later ones, which nothing outside can see.
 #[derive(Drop)]
 pub struct Range {
     geometry: Geometry,
@@ -68,6 +70,7 @@ pub struct Range {
     errors: u64,
     tickets: u64,
     seat: PoolSeat,
+    spare: Spare,
 }
 
 impl Model for Range {
@@ -116,6 +119,7 @@ impl Range {
         ensures home { IfOk result (λ r. All (λ c. c.away ≡ None) r.cells) }
         ensures truth { IfOk result (λ r. RangeTruth r r [] ((Some first_claims, []) ∷ [])) }
     {
+        let spare = Spare::empty(alloc)?;
         let cells = build_cells(alloc, extents.as_slice(), first, blocks, sectors)?;
         Ok(Range {
             geometry,
@@ -127,6 +131,7 @@ impl Range {
             errors: 0,
             tickets: 0,
             seat,
+            spare,
         })
     }
 
@@ -156,6 +161,7 @@ impl Range {
             errors: _,
             tickets: _,
             seat,
+            spare: _,
         } = self;
         let alloc = log.allocator();
         let extents = merge_kinds(alloc, first, cells.as_slice())?;

@@ -51,13 +51,14 @@ impl Range {
     ghost use Rattle.range_core.specs.DropCleans.{dropped_count, dropped_run};
     ghost use Rattle.range_core.specs.RangeView.{LiesAt};
 
-    /// Each of these blocks that is uptodate, clean and at home loses its page. It answers how many did. It has no
-    /// refusal and takes no memory.
+    /// Each of these blocks that is uptodate, clean and at home loses its page. It answers how many did. Their memory and
+    /// that of pages kept for later is given up. It has no refusal and takes no memory.
     pub fn drop_clean(&mut self, block: u64, blocks: u64) -> u64
         requires { LiesAt self.old block blocks }
         ensures state { self.new ≡ dropped_run self.old block blocks }
         ensures count { result ≡ dropped_count self.old block blocks }
     {
+        self.spare.clear();
         let low = (block - self.first) as usize;
         drop_run(&mut self.cells, low, blocks as usize)
     }

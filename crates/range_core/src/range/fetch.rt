@@ -80,6 +80,7 @@ impl Range {
             &mut self.cells,
             low,
             run.blocks,
+            &mut self.spare,
         ) else {
             return Err(EventFault::NoMemory);
         };

@@ -14,6 +14,7 @@ use crate::leading::{Joins, leading_run, most_lent};
 use crate::lend::{bring_home, lend_blocks};
 use crate::lending::{Away, Lender, Lent};
 use crate::loan_answer::LendRefused;
+use crate::spare::{Spare, keep_pages};
 use crate::stops::{Hinders, IsAway, IsWarm, is_cold_block};
 use fault_device::Done;
 use io_model::Kind;
@@ -91,14 +92,20 @@ fn put_pages(cells: &mut Vec<Cell>, low: usize, parts: &mut [Part])
 
 /// Brings the sectors of a read home, to the blocks from the place `low` on, which get its pages where it did not fail.
 /// It answers the list, empty.
-fn fill_run_back(cells: &mut Vec<Cell>, low: usize, parts: Parts, failed: bool) -> Parts
+fn fill_run_back(
+    cells: &mut Vec<Cell>,
+    low: usize,
+    parts: Parts,
+    failed: bool,
+    spare: &mut Spare,
+) -> Parts
     requires { low + length parts ≤ vec_len cells.old }
     ensures cells { cells.new.items ≡ on_each (filled_of failed parts) 0 low (length parts) cells.old.items }
     ensures emptied { result ≡ [] }
 {
     let mut pages = bring_home(cells, low, parts);
     if failed {
-        pages.clear();
+        keep_pages(spare, &mut pages);
         return pages;
     }
     put_pages(cells, low, pages.as_mut_slice());
@@ -174,7 +181,8 @@ impl Range {
             });
         };
         let alloc = self.log.allocator();
-        let Ok(()) = add_pages(alloc, self.geometry.block_size(), n, &mut parts) else {
+        let size = self.geometry.block_size();
+        let Ok(()) = add_pages(alloc, size, n, &mut self.spare, &mut parts) else {
             return Err(LendRefused {
                 fault: EventFault::NoMemory,
                 parts,
@@ -203,7 +211,7 @@ impl Range {
         } = back;
         claims.release();
         let low = (block - self.first) as usize;
-        fill_run_back(&mut self.cells, low, parts, done.failed)
+        fill_run_back(&mut self.cells, low, parts, done.failed, &mut self.spare)
     }
 }
 

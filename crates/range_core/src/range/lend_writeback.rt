@@ -10,10 +10,12 @@ use super::Range;
 use crate::cell::{Cell, continues, is_unwritten_kind};
 use crate::claims::Claims;
 use crate::fault::EventFault;
+use crate::fresh::copy_of;
 use crate::leading::{Joins, leading_run, most_lent};
 use crate::lend::{bring_home, lend_blocks, mark_run_written};
 use crate::lending::{Away, Lender, Lent};
 use crate::loan_answer::{LendRefused, Written};
+use crate::spare::{Spare, keep_pages};
 use crate::stops::{Hinders, IsAway, IsNotReady};
 use fault_device::Done;
 use io_model::Kind;
@@ -73,17 +75,16 @@ fn is_not_dirty(block: u64, cell: &Cell) -> Option<EventFault>
     IsNotReady {}.at(block, cell)
 }
 
-fn copy_page(alloc: Global, cell: &Cell) -> Result<Page, AllocError>
+fn copy_page(alloc: Global, cell: &Cell, spare: &mut Spare) -> Result<Page, AllocError>
     ensures { IfOk result (λ page. page ≡ page_copy cell.now) }
 {
-    let bytes = match &cell.page {
-        Some(page) => Items::from_slice(alloc, page.bytes.as_slice())?,
-        None => Items::new(alloc),
+    let Some(page) = &cell.page else {
+        return Ok(Page {
+            number: u64::MAX,
+            bytes: Items::new(alloc),
+        });
     };
-    Ok(Page {
-        number: u64::MAX,
-        bytes,
-    })
+    copy_of(alloc, page, spare)
 }
 
 /// Adds snapshots of the pages of `n` blocks from the place `low` on to an empty list, whose sectors stay blank. Want of
@@ -93,6 +94,7 @@ fn add_copies(
     cells: &[Cell],
     low: usize,
     n: usize,
+    spare: &mut Spare,
     parts: &mut Parts,
 ) -> Result<(), AllocError>
     requires within { low + n ≤ length cells.now }
@@ -102,7 +104,7 @@ fn add_copies(
     ensures none { OnErr result (parts.new ≡ []) }
 {
     for i in 0..n {
-        let Ok(page) = copy_page(alloc, &cells[low + i]) else {
+        let Ok(page) = copy_page(alloc, &cells[low + i], spare) else {
             parts.clear();
             return Err(AllocError);
         };
@@ -128,14 +130,20 @@ fn mark_run_dirty(cells: &mut Vec<Cell>, low: usize, n: usize)
 
 /// Brings the sectors of a write home, to the blocks from the place `low` on: these are mapped where it did not fail, and
 /// dirty where it failed. It answers the list, empty.
-fn write_run_back(cells: &mut Vec<Cell>, low: usize, parts: Parts, failed: bool) -> Parts
+fn write_run_back(
+    cells: &mut Vec<Cell>,
+    low: usize,
+    parts: Parts,
+    failed: bool,
+    spare: &mut Spare,
+) -> Parts
     requires { low + length parts ≤ vec_len cells.old }
     ensures cells { cells.new.items ≡ on_each (ended_of failed parts) 0 low (length parts) cells.old.items }
     ensures emptied { result ≡ [] }
 {
     let n = parts.len();
     let mut pages = bring_home(cells, low, parts);
-    pages.clear();
+    keep_pages(spare, &mut pages);
     if failed {
         mark_run_dirty(cells, low, n);
         return pages;
@@ -239,7 +247,7 @@ impl Range {
             });
         };
         let alloc = self.log.allocator();
-        let Ok(()) = add_copies(alloc, &self.cells, low, n, &mut parts) else {
+        let Ok(()) = add_copies(alloc, &self.cells, low, n, &mut self.spare, &mut parts) else {
             return Err(LendRefused {
                 fault: EventFault::NoMemory,
                 parts,
@@ -274,7 +282,7 @@ impl Range {
         let blocks = count_written(parts.len(), done.failed);
         self.cookie += cookie_raise(self.cells[low].kind, done.failed);
         self.errors = self.errors.saturating_add(u64::from(done.failed));
-        let parts = write_run_back(&mut self.cells, low, parts, done.failed);
+        let parts = write_run_back(&mut self.cells, low, parts, done.failed, &mut self.spare);
         Written { blocks, parts }
     }
 }

@@ -76,7 +76,15 @@ impl Range {
         let alloc = self.log.allocator();
         let low = (run.first - self.first) as usize;
         let needs = &NeedsPageForZeros {};
-        let Ok(()) = give_pages(alloc, run.size, needs, &mut self.cells, low, run.blocks) else {
+        let Ok(()) = give_pages(
+            alloc,
+            run.size,
+            needs,
+            &mut self.cells,
+            low,
+            run.blocks,
+            &mut self.spare,
+        ) else {
             return Err(EventFault::NoMemory);
         };
         clear_run(&mut self.cells, self.first, run);

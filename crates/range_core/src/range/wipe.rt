@@ -12,6 +12,7 @@ use crate::cookie::{next_cookie, worn_stop};
 use crate::fault::EventFault;
 use crate::place::{IsPromised, IsUsed, count_run};
 use crate::space::give_back;
+use crate::spare::{Spare, shed_page};
 use crate::stamps::stamp_done;
 use crate::stops::{IsAway, first_stop};
 use io_model::Kind;
@@ -21,7 +22,7 @@ use std::sync::Wait;
 use turn_cell::Change;
 
 // Makes a hole of a block, and moves its sector to the end of a list that has room.
-fn wipe_block(cell: &mut Cell, sectors: &mut Vec<Sector>)
+fn wipe_block(cell: &mut Cell, sectors: &mut Vec<Sector>, spare: &mut Spare)
     requires { vec_len sectors.old < vec_capacity sectors.old }
     ensures cell { cell.new ≡ wiped cell.old }
     ensures sectors { sectors.new.items ≡ sectors.old.items ++ cons_option cell.old.sector [] }
@@ -29,14 +30,20 @@ fn wipe_block(cell: &mut Cell, sectors: &mut Vec<Sector>)
     ensures capacity { vec_capacity sectors.new ≡ vec_capacity sectors.old }
 {
     cell.kind = Kind::Hole;
-    cell.page = None;
+    shed_page(cell, spare);
     cell.dirty = false;
     if let Some(sector) = cell.sector.take() {
         sectors.push_reserved(sector);
     }
 }
 
-fn wipe_run(cells: &mut Vec<Cell>, low: usize, blocks: usize, sectors: &mut Vec<Sector>)
+fn wipe_run(
+    cells: &mut Vec<Cell>,
+    low: usize,
+    blocks: usize,
+    sectors: &mut Vec<Sector>,
+    spare: &mut Spare,
+)
     requires within { low + blocks ≤ vec_len cells.old }
     requires empty { sectors.old.items ≡ [] }
     requires room { blocks ≤ vec_capacity sectors.old }
@@ -44,7 +51,7 @@ fn wipe_run(cells: &mut Vec<Cell>, low: usize, blocks: usize, sectors: &mut Vec<
     ensures sectors { sectors.new.items ≡ sectors_of (take blocks (drop low cells.old.items)) }
 {
     for i in 0..blocks {
-        wipe_block(&mut cells[low + i], sectors);
+        wipe_block(&mut cells[low + i], sectors, spare);
     }
 }
 
@@ -103,7 +110,7 @@ impl Range {
             return Err(EventFault::NoMemory);
         };
         let promised = count_run(&IsPromised {}, &self.cells, low, n);
-        wipe_run(&mut self.cells, low, n, &mut sectors);
+        wipe_run(&mut self.cells, low, n, &mut sectors, &mut self.spare);
         give_back(rt, space, &mut self.seat, &mut sectors, promised);
         self.log.add(block, n, stamp_done(by));
         self.cookie = next_cookie(self.cookie, changed);

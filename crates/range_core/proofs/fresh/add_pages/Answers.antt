@@ -1,5 +1,5 @@
-use Rattle.std.proofs.Common.{List, length, All, arith, refl, sym, ap, ◌∙◌, subst}
-use Rattle.std.proofs.lemmas.List.{length-replicate, length_push, map_push}
+use Rattle.std.proofs.Common.{List, length, All, arith, sym, ap, ◌∙◌, subst}
+use Rattle.std.proofs.lemmas.List.{length_push, map_push}
 use Rattle.std.proofs.lemmas.List.Elements.{All-push}
 use Rattle.iob_base.specs.Parting.{bare_part, pages_of}
 use Rattle.iob_base.specs.declared.part.Part.{Part}
@@ -14,9 +14,7 @@ loop-preserved c =
     let parts : List Part = c.loop.parts in
     let A : List Page → Type 0 = λ ps. All (IsCachePage size) ps in
     let P : List Part → Type 0 = λ ps. All (IsCachePage size) (pages_of ps) in
-    let C : Page → Type 0 = λ p. IsCachePage size p in
-    let cache : IsCachePage size page = subst C (sym c.in-Ok.ensures) (record { number = refl; whole = length-replicate size 0 }) in
     record {
       many = ap length c.push_page.ensures ∙ omega (arith, length_push parts (bare_part page), c.loop.invariant.many);
-      pages = subst P (sym c.push_page.ensures) (subst A (sym (map_push (λ (p : Part). p.page) parts (bare_part page))) (All-push (IsCachePage size) (pages_of parts) page c.loop.invariant.pages cache));
+      pages = subst P (sym c.push_page.ensures) (subst A (sym (map_push (λ (p : Part). p.page) parts (bare_part page))) (All-push (IsCachePage size) (pages_of parts) page c.loop.invariant.pages c.in-Ok.ensures));
     }

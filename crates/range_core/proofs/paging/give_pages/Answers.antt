@@ -17,11 +17,11 @@ loop-i-init g c =
     let needs : Cell → Bool = g.T.Needs.needs c.args.test.now in
     let first : List Cell = c.args.cells.now.items in
     let none = count_on-none needs c.args.low first in
-    let many : length c.in_ok-spare.spare.items ≡ c.count_needs-count.result = ap length c.in_ok-spare.ensures ∙ length-replicate c.count_needs-count.result (zero_page c.args.size) in
+    let many : length c.in_ok-stock.stock.items ≡ c.count_needs-count.result = ap length c.in_ok-stock.ensures ∙ length-replicate c.count_needs-count.result (zero_page c.args.size) in
     record {
       filling = record {
         cells = on_each-none (λ _ x. filled_where needs c.args.size x) 0 c.args.low first;
-        stock_is = c.in_ok-spare.ensures ∙ ap (λ k. replicate k (zero_page c.args.size)) (sym many);
+        stock_is = c.in_ok-stock.ensures ∙ ap (λ k. replicate k (zero_page c.args.size)) (sym many);
         left = omega (arith, many, none, c.count_needs-count.ensures.count);
       };
       many = refl;
@@ -46,21 +46,21 @@ loop-i-preserved g c =
     let n : ℕ = c.args.blocks in
     let first : List Cell = c.args.cells.now.items in
     let now : List Cell = c.loop-i.cells.items in
-    let stock : List Page = c.loop-i.spare.items in
+    let stock : List Page = c.loop-i.stock.items in
     let cell : Cell = c.index_mut-cell.result.now in
     let inv = c.loop-i.invariant in
     let many : length now ≡ length first = omega (arith, inv.many, c.loop-i.cells.ok.0, c.args.cells.now.ok.0) in
     let within : low + i < length first = omega (arith, c.args.cells.now.ok.0, c.requires) in
     let takes = λ (e : needs cell ≡ true). take_page needs size low n i first now stock cell inv.filling c.index_mut-cell.ensures.value within many c.loop-i-test.true e in
-    let filling : IsFilling needs size low n (i + 1) first c.if-needs.cells.items c.if-needs.spare.items =
+    let filling : IsFilling needs size low n (i + 1) first c.if-needs.cells.items c.if-needs.stock.items =
     elim c.if-needs.branch [
-      | then-needs+in-Some-1 w ↦ taken needs size low n i _ first now _ stock _ cell w.pop.result (takes (sym c.needs.ensures ∙ w.if-needs.true)) c.loop-i.spare.ok.0 (w.pop.ensures.value (zero_page size)) (ap items w.cells-is) (ap items w.spare-is ∙ w.pop.ensures.rest)
-      | then-needs+in-None-1 w ↦ taken needs size low n i _ first now _ stock _ cell w.pop.result (takes (sym c.needs.ensures ∙ w.if-needs.true)) c.loop-i.spare.ok.0 (w.pop.ensures.value (zero_page size)) (ap items w.cells-is) (ap items w.spare-is ∙ w.pop.ensures.rest)
+      | then-needs+in-Some-1 w ↦ taken needs size low n i _ first now _ stock _ cell w.pop.result (takes (sym c.needs.ensures ∙ w.if-needs.true)) c.loop-i.stock.ok.0 (w.pop.ensures.value (zero_page size)) (ap items w.cells-is) (ap items w.stock-is ∙ w.pop.ensures.rest)
+      | then-needs+in-None-1 w ↦ taken needs size low n i _ first now _ stock _ cell w.pop.result (takes (sym c.needs.ensures ∙ w.if-needs.true)) c.loop-i.stock.ok.0 (w.pop.ensures.value (zero_page size)) (ap items w.cells-is) (ap items w.stock-is ∙ w.pop.ensures.rest)
       | else-needs w ↦
           let same : set now (low + i) cell ≡ now = ap (set now (low + i)) c.index_mut-cell.ensures.value ∙ set-get_or now (low + i) cell in
           let cells : c.if-needs.cells.items ≡ now = ap items w.cells-is ∙ same in
-          let stays : c.if-needs.spare.items ≡ stock = ap items w.spare-is in
-          let C : List Cell → Type 0 = λ xs. IsFilling needs size low n (i + 1) first xs c.if-needs.spare.items in
+          let stays : c.if-needs.stock.items ≡ stock = ap items w.stock-is in
+          let C : List Cell → Type 0 = λ xs. IsFilling needs size low n (i + 1) first xs c.if-needs.stock.items in
           let S : List Page → Type 0 = λ xs. IsFilling needs size low n (i + 1) first now xs in
           subst C (sym cells) (subst S (sym stays) (keep_page needs size low n i first now stock cell inv.filling c.index_mut-cell.ensures.value within many (sym c.needs.ensures ∙ w.if-needs.false)))
     ] in

@@ -56,7 +56,7 @@ returns-clause-ready c =
     let pages : List Page = (pages_of c.add_pages.new.parts) in
     let M : ℕ → Type 0 = λ n. MayLend cells low n in
     let S : ℕ → Type 0 = λ z. All (IsCachePage z) pages in
-    let whole : All (IsWholePage size) pages = whole_pages size pages (subst S c.block_size.ensures.value c.in-Ok-add_pages.ensures.pages) in
+    let whole : All (IsWholePage size) pages = whole_pages size pages (subst S c.block_size-size.ensures.value c.in-Ok-add_pages.ensures.pages) in
     let T : Lent → Type 0 = λ lent. CanTransfer lent.parts in
     let some = run.some in
     let few = run.few in
@@ -71,5 +71,5 @@ returns-clause-lent c =
       pages = pages;
       lent_is = c.lend_blocks.ensures.lent;
       many = c.in-Ok-add_pages.ensures.many ∙ c.in-Ok.ensures.count ∙ ap (λ (v : RangeView). fill_length v c.args.block c.args.blocks) (sym c.self.view_is);
-      kept = subst S c.block_size.ensures.value c.in-Ok-add_pages.ensures.pages;
+      kept = subst S c.block_size-size.ensures.value c.in-Ok-add_pages.ensures.pages;
     })
