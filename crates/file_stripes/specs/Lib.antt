@@ -4,3 +4,4 @@ pub mod Kinds
 pub mod Runs
 pub mod Stripes
 pub mod Taking
+pub mod Worked

@@ -16,7 +16,7 @@ use std::vec::IntoIter;
 
 /// The stripes of a file before the first call, in order. Each has `STRIPE_BLOCKS` blocks, and the last those that are
 /// left. The sectors of the file's blocks come first among those that are held, in order of blocks, and move into the
-/// stripes; what is behind them stays. It walks each block once.
+/// stripes; what is behind them stays. docs/ARCHITECTURE.md says why a file is cut. It walks each block once.
 ///
 /// # Errors
 ///

@@ -12,7 +12,8 @@ use iob_base::Items;
 use std::alloc::{AllocError, Global};
 
 /// The end of a file from the ends of its stripes, which follow one another from block 0 on: its extents, merged over the
-/// borders of the stripes too, as a listing of the extents shows them, and all its blocks, in order. It walks each extent and block once.
+/// borders of the stripes too, as the extents that iomap's operations guide reports for FIEMAP, and all its blocks, in
+/// order. It walks each extent and block once.
 ///
 /// # Errors
 ///

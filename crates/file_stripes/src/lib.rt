@@ -9,6 +9,8 @@ mod run_end;
 mod runs;
 mod stripe;
 mod taking;
+#[cfg(test)]
+mod worked;
 
 pub use cutting::cut_stripes;
 pub use joining::join_ends;

@@ -18,8 +18,8 @@ pub struct Taken {
     pub free: Vec<Sector>,
 }
 
-/// Parts the sectors of a device, all of them in the order of their numbers. Those that the files' extents name come out in order of file
-/// and block, and the others are free, in order. It walks each sector, block and extent once.
+/// Parts the sectors of a device, which are all there, in the order of their numbers. Those that the files' extents name are
+/// held, in order of file and block, and the others are free, in order. It walks each sector, block and extent once.
 ///
 /// # Errors
 ///
