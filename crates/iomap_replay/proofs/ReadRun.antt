@@ -31,6 +31,10 @@ use Rattle.iomap_replay.specs.declared.job.Job.{Job}
 use Rattle.range_core.proofs.CellLemmas.{length-cells_of, length-kinds_from}
 use Rattle.range_core.proofs.FirstTruth.{IsUntouched, all_cold}
 use Rattle.range_core.specs.Cells.{cells_of, cold_cell, sectors_after}
+use Rattle.fault_device.specs.LaneView.{LaneView}
+use Rattle.fault_device.specs.Opening.{Opening, Serves}
+use Rattle.fault_device.specs.declared.lane.Done.{Done}
+use Rattle.range_core.specs.Judges.{AsksLane, IsAsked, Judges}
 use Rattle.range_core.specs.DirectNows.{CanReadNow, after_direct_now, is_clean_home, now_count, now_length, pages_filled, without_mapped_page}
 use Rattle.range_core.specs.Events.{with_stamps}
 use Rattle.range_core.specs.Kinds.{is_mapped, kinds_from}
@@ -336,3 +340,11 @@ begins_in script job pages old new of read =
 pub if_ok : {T E : Type 0} (r : Result T E) (P Q : T → Type 0) → ((x : T) → P x → Q x) → IfOk r P → IfOk r Q
 if_ok (Ok x) P Q turn holds = turn x holds
 if_ok (Err e) P Q turn holds = tt
+
+-- a lane that was asked at most once still stands over the fate that it was opened with
+pub still_serves : (o : Opening) (n : ℕ) (was now : LaneView) → Judges AsksLane n was now → Serves o was → Serves o now
+still_serves o n was now j served = at j.answer j.is_asked
+  where
+    at : (answer : Option Done) → IsAsked AsksLane n was now answer → Serves o now
+    at None same = subst (Serves o) (sym same) served
+    at (Some done) told = (told.serves o served).still

@@ -2,6 +2,7 @@
 ghost use Rattle.std.specs.Prelude.{◌≡◌, ◌-◌, ◌*◌, ◌/◌, ◌%◌, ◌+◌, ◌≤◌, false, [], ◌∷◌, All, IfOk, length, take, drop, replicate};
 ghost use Rattle.io_model.specs.Fitting.{is_again};
 ghost use Rattle.iob_base.specs.declared.answer.Reply.TheVariants.{Err as Failed};
+ghost use Rattle.iob_base.specs.Parting.{bare_part, pages_of};
 ghost use Rattle.iomap_replay.specs.Causes.{IsCausedReply};
 ghost use Rattle.iomap_replay.specs.Jobs.{IsJobOf};
 ghost use Rattle.iomap_replay.specs.OneRead.{blank, bytes_of, IsOpened, IsOutcome, IsWholeEnd};
@@ -10,11 +11,10 @@ ghost use Rattle.fault_device.specs.Opening.{Opening, Serves};
 
 use crate::blocks::{begin_of, count_of};
 use crate::job::Job;
-use arrayvec::ArrayVec;
 use fault_device::Lane;
 use io_model::{CallEnd, Script};
-use iob_base::{Answer, Fault, Items, Page, Reply, Stop, Tag};
-use range_core::{EventFault, Pages, Range};
+use iob_base::{Answer, Fault, Items, Page, Part, Parts, Reply, Stop, Tag};
+use range_core::{EventFault, Range};
 use std::alloc::{AllocError, Global};
 
 /// A page of zeros, of a block's length. Want of memory is the only error.
@@ -28,16 +28,24 @@ fn blank_page(alloc: Global, size: u32) -> Result<Page, AllocError>
     })
 }
 
-/// So many pages of zeros, as one transfer takes. Want of memory is the only error.
-fn blank_pages(alloc: Global, size: u32, n: usize) -> Result<Pages, AllocError>
+/// A list of so many pages of zeros, as one transfer takes. Want of memory is the only error.
+fn blank_pages(alloc: Global, size: u32, n: usize) -> Result<Parts, AllocError>
     requires { n ≤ 16 }
-    ensures { IfOk result (λ pages. pages.items ≡ replicate n (blank size)) }
+    ensures { IfOk result (λ parts. pages_of parts ≡ replicate n (blank size)) }
 {
-    let mut pages: Pages = ArrayVec::new_in(alloc);
+    let parts = blank_parts(alloc, size, n)?;
+    Ok(parts)
+}
+
+fn blank_parts(alloc: Global, size: u32, n: usize) -> Result<Parts, AllocError>
+    requires { n ≤ 16 }
+    ensures { IfOk result (λ parts. parts ≡ replicate n (bare_part (blank size))) }
+{
+    let mut parts = Parts::new(alloc)?;
     for _ in 0..n {
-        pages.push(blank_page(alloc, size)?);
+        parts.push_page(blank_page(alloc, size)?);
     }
-    Ok(pages)
+    Ok(parts)
 }
 
 /// The end of a read that failed.
@@ -57,19 +65,19 @@ fn failed_end(alloc: Global, fault: Fault, bios: u64) -> CallEnd
     }
 }
 
-/// So many bytes of these pages, joined, from a place of the first page on. Want of memory is the only
+/// So many bytes of the pages of these parts, joined, from a place of the first page on. Want of memory is the only
 /// error.
-fn bytes_from(alloc: Global, pages: &[Page], place: usize, n: usize) -> Result<Vec<u8>, AllocError>
-    requires { All (λ p. place ≤ length p.bytes) pages.now }
-    ensures { IfOk result (λ bytes. bytes.items ≡ take n (drop place (bytes_of pages.now))) }
+fn bytes_from(alloc: Global, parts: &[Part], place: usize, n: usize) -> Result<Vec<u8>, AllocError>
+    requires { All (λ p. place ≤ length p.bytes) (pages_of parts.now) }
+    ensures { IfOk result (λ bytes. bytes.items ≡ take n (drop place (bytes_of (pages_of parts.now)))) }
 {
     let mut bytes = Vec::new(alloc);
-    let [first, others @ ..] = pages else {
+    let [first, others @ ..] = parts else {
         return Ok(bytes);
     };
-    bytes.extend_from_slice(&first.bytes.as_slice()[place..])?;
-    for page in others {
-        bytes.extend_from_slice(page.bytes.as_slice())?;
+    bytes.extend_from_slice(&first.page.bytes.as_slice()[place..])?;
+    for part in others {
+        bytes.extend_from_slice(part.page.bytes.as_slice())?;
     }
     bytes.truncate(n);
     Ok(bytes)
@@ -77,12 +85,12 @@ fn bytes_from(alloc: Global, pages: &[Page], place: usize, n: usize) -> Result<V
 
 /// The end of a read whose range begins at a place of the first of these pages. Want of memory is the
 /// only error.
-fn whole_end(alloc: Global, pages: &[Page], place: usize, n: usize) -> Result<CallEnd, AllocError>
-    requires begins { All (λ p. place ≤ length p.bytes) pages.now }
-    requires ends { place + n ≤ length (bytes_of pages.now) }
-    ensures { IfOk result (λ end. IsWholeEnd end n (take n (drop place (bytes_of pages.now)))) }
+fn whole_end(alloc: Global, parts: &[Part], place: usize, n: usize) -> Result<CallEnd, AllocError>
+    requires begins { All (λ p. place ≤ length p.bytes) (pages_of parts.now) }
+    requires ends { place + n ≤ length (bytes_of (pages_of parts.now)) }
+    ensures { IfOk result (λ end. IsWholeEnd end n (take n (drop place (bytes_of (pages_of parts.now))))) }
 {
-    let got = bytes_from(alloc, pages, place, n)?;
+    let got = bytes_from(alloc, parts, place, n)?;
     Ok(CallEnd {
         answer: Answer {
             reply: Reply::Ok {
@@ -97,6 +105,7 @@ fn whole_end(alloc: Global, pages: &[Page], place: usize, n: usize) -> Result<Ca
 }
 
 /// Reads the range of the call, by one event. Want of memory outside it is the only error.
+#[tactic(auto, using(crate::proofs::ReadRun::still_serves))]
 pub fn read_once(
     alloc: Global,
     script: &Script,

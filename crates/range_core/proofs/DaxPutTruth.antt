@@ -3,7 +3,6 @@ use Rattle.std.proofs.Common.{◌≡◌, ℕ, ◌+◌, ◌-◌, ◌/◌, ◌<◌
 use Rattle.std.specs.Prelude.{IfErr, IsSomeAnd, OnErr, OnOk, Result, Ok, Err, max, nat_le, nat_lt, slice_get}
 use Rattle.std.proofs.lemmas.Bool.{leb-false, ltb-false}
 use Rattle.std.proofs.lemmas.List.{length-replicate}
-use Rattle.fault_device.specs.declared.lane.Done.{Done}
 use Rattle.iob_base.specs.DeviceBlock.{DeviceBlock}
 use Rattle.iob_base.specs.declared.TheConstants.{WORN}
 use Rattle.io_model.specs.Contents.{Content, zeros}
@@ -20,7 +19,7 @@ use Rattle.range_core.specs.BlockTruth.{IsTrueAt}
 use Rattle.range_core.specs.ByteRuns.{HasNext, IsByteRun, run_between}
 use Rattle.range_core.specs.Cells.{HasPlace}
 use Rattle.range_core.specs.ClaimsView.{ClaimsView}
-use Rattle.range_core.specs.DaxPuts.{CanPutDax, LeavesPut, PutErr, PutMade, PutsDax, RefusesPut, holes_met, put_bytes, put_placed}
+use Rattle.range_core.specs.DaxPuts.{CanPutDax, LeavesPut, PutMade, PutsDax, holes_met, put_bytes, put_entry, put_placed}
 use Rattle.range_core.specs.DaxGets.{IsThrough}
 use Rattle.range_core.specs.EntryCounts.{one_where}
 use Rattle.range_core.specs.Events.{with_stamps}
@@ -39,7 +38,7 @@ use Rattle.range_core.specs.Through.{made_mapped, through}
 use Rattle.range_core.specs.declared.cell.Cell.{Cell}
 use Rattle.range_core.specs.declared.entry.Entry.{Entry}
 use Rattle.range_core.specs.declared.entry.Event.TheVariants.{DaxPut}
-use Rattle.range_core.specs.declared.entry.Outcome.TheVariants.{Took}
+use Rattle.range_core.specs.declared.entry.Outcome.TheVariants.{Refused, Took}
 use Rattle.range_core.specs.declared.fault.EventFault.{EventFault}
 use Rattle.range_core.specs.declared.fault.EventFault.TheVariants as why
 use Rattle.range_core.specs.declared.lending.Away.{Away}
@@ -322,22 +321,21 @@ can_put_dax opening now history stakes seen from to t bytes given v begins was r
   uncached = t.dax_is_uncached (t.same_run.mode ∙ bytes.dax);
 }
 
-module _ {R F : Type 0} (step : F → ℕ → Done → F → Type 0) (change later : DaxPutRun R F) (opening now next : RangeView) (history : List Entry) (stakes : List RangeStake) (number : ℕ) (claims : ClaimsView) (made : List Entry) where
+module _ {R F : Type 0} (change : DaxPutRun R F) (opening now next : RangeView) (history : List Entry) (stakes : List RangeStake) (number : ℕ) (claims : ClaimsView) (made : List Entry) where
   -- what is told of an answer, and the truth
   pub put_turn : (answer : Result (Unit {0}) EventFault)
-      → IfErr answer (RefusesPut (holes_met now change.from change.to) (dax_put_refusal now change.seen) (λ done. step change.judge (blocks_met now.geometry.block_size change.from change.to) done later.judge) (later.judge ≡ change.judge))
-      → IfErr answer (λ e. LeavesPut (pool_cell change.space.now).opening (holes_met now change.from change.to) e now next) → OnErr answer (later.iov.now ≡ change.iov.now) → OnOk answer (dax_put_refusal now change.seen ≡ None)
+      → IfErr answer (λ e. LeavesPut (pool_cell change.space.now).opening (holes_met now change.from change.to) e now next) → OnOk answer (dax_put_refusal now change.seen ≡ None)
       → OnOk answer (PutsDax (pool_cell change.space.now).opening now change.by change.seen change.from change.to (put_bytes change) next) → IsByteRun (run_between now.geometry.block_size change.from change.to) → IsSound next
       → CanPutDax now change.seen change.from change.to change.iov.now → RangeTruth opening now history stakes → Works stakes number claims made → IsThrough opening change.seen change.from change.to
-      → Enters opening now next history stakes number claims made (λ entry. OnOk answer (PutMade change now next claims entry) × PutErr step change later now next claims entry answer)
-  put_turn (Err fault) refused left nothing calm puts cut sound can t here bytes = record {
+      → Enters opening now next history stakes number claims made (λ entry. OnOk answer (PutMade change now next claims entry) × IfErr answer (λ e. entry ≡ put_entry claims change (Refused e)))
+  put_turn (Err fault) left calm puts cut sound can t here bytes = record {
     entry = refused_entry claims (DaxPut change.by change.seen change.from change.to (put_bytes change)) fault;
-    told = (tt, record { refused = refused; leaves = left; nothing = nothing; entry_is = refl });
+    told = (tt, refl);
     holds = put_refused opening now next history stakes number claims made (DaxPut change.by change.seen change.from change.to (put_bytes change)) (pool_cell change.space.now).opening (holes_met now change.from change.to) fault left t here;
   }
-  put_turn (Ok x) refused left nothing calm puts cut sound can t here bytes = record {
+  put_turn (Ok x) left calm puts cut sound can t here bytes = record {
     entry = entry now.geometry.block_size;
-    told = (record { made = calm; puts = puts; entry_is = refl }, tt);
+    told = (record { puts = puts; entry_is = refl }, tt);
     holds =
         let same : now.geometry.block_size ≡ opening.geometry.block_size = ap (λ q. q.block_size) t.same_run.geometry in
         let opened : PoolView = (pool_cell change.space.now).opening in

@@ -9,6 +9,8 @@ use Rattle.std.proofs.lemmas.List.Elements.{All-tail}
 use Rattle.std.proofs.lemmas.List.Sums.{prefix_len-le-length, prefix_len_passes}
 use Rattle.std.proofs.lemmas.Option.{get_or_from_slice_get}
 use Rattle.iob_base.specs.DeviceBlock.{DeviceBlock}
+use Rattle.iob_base.specs.Parting.{pages_of}
+use Rattle.iob_base.specs.declared.part.Part.{Part}
 use Rattle.iob_base.specs.declared.sector.Page.{Page}
 use Rattle.iob_base.specs.declared.stamp.Stamp.{Stamp}
 use Rattle.io_model.specs.Contents.{Content, zeros}
@@ -20,7 +22,7 @@ use Rattle.turn_cell.specs.Stakes.{total}
 use Rattle.range_core.specs.BlockStates.{state_of, without_page}
 use Rattle.range_core.specs.BlockTruth.{HomeContent, IsHomeContent, IsTrueAt, IsWholePage, is_gone}
 use Rattle.range_core.specs.Cells.{HasPlace, HasSector, IsPlaced}
-use Rattle.range_core.specs.DirectNows.{AreReady, IsReady, filled_page, is_clean_home, now_length, pages_filled, stored_bytes, without_mapped_page}
+use Rattle.range_core.specs.DirectNows.{AreReady, IsReady, filled_page, filled_part, is_clean_home, now_length, pages_filled, part_sectors, parts_filled, stored_bytes, without_mapped_page}
 use Rattle.range_core.specs.Events.{page_shape}
 use Rattle.range_core.specs.Kinds.{is_mapped}
 use Rattle.range_core.specs.OnRun.{on_each, on_run}
@@ -101,31 +103,45 @@ now_length-some b (c ∷ cells) (suc n) h k e =
     one : (t : Bool) (m : ℕ) → t ≡ true → (if t then 1 + m else 0) ≡ suc m
     one t m e = ap (λ x. if x then 1 + m else 0) e ∙ (let z : 1 + m ≡ suc m = omega arith in z)
 
--- the next page is as it was
-pub pages_filled-next : (size i : ℕ) (cells : List Cell) (pages : List Page) (d : Page) → get_or (pages_filled size i cells pages) i d ≡ get_or pages i d
-pages_filled-next size zero cells pages d = refl
-pages_filled-next size (suc i) [] pages d = refl
-pages_filled-next size (suc i) (c ∷ cells) [] d = refl
-pages_filled-next size (suc i) (c ∷ cells) (p ∷ pages) d = pages_filled-next size i cells pages d
+-- the next part is as it was
+pub parts_filled-next : (size i : ℕ) (cells : List Cell) (parts : List Part) (d : Part) → get_or (parts_filled size i cells parts) i d ≡ get_or parts i d
+parts_filled-next size zero cells parts d = refl
+parts_filled-next size (suc i) [] parts d = refl
+parts_filled-next size (suc i) (c ∷ cells) [] d = refl
+parts_filled-next size (suc i) (c ∷ cells) (p ∷ parts) d = parts_filled-next size i cells parts d
 
 -- one more page is filled
-pages_filled-more : (size i : ℕ) (cells : List Cell) (pages : List Page) (c : Cell) (p : Page) → i < length cells → i < length pages
-    → pages_filled size (suc i) cells pages ≡ set (pages_filled size i cells pages) i (filled_page size (get_or cells i c) (get_or pages i p))
-pages_filled-more size i [] pages c p h k = absurd (omega arith)
-pages_filled-more size i (x ∷ cells) [] c p h k = absurd (omega arith)
-pages_filled-more size zero (x ∷ cells) (q ∷ pages) c p h k = refl
-pages_filled-more size (suc i) (x ∷ cells) (q ∷ pages) c p h k = ap (λ l. filled_page size x q ∷ l) (pages_filled-more size i cells pages c p (omega arith) (omega arith))
+parts_filled-more : (size i : ℕ) (cells : List Cell) (parts : List Part) (c : Cell) (p : Part) → i < length cells → i < length parts
+    → parts_filled size (suc i) cells parts ≡ set (parts_filled size i cells parts) i (filled_part size (get_or cells i c) (get_or parts i p))
+parts_filled-more size i [] parts c p h k = absurd (omega arith)
+parts_filled-more size i (x ∷ cells) [] c p h k = absurd (omega arith)
+parts_filled-more size zero (x ∷ cells) (q ∷ parts) c p h k = refl
+parts_filled-more size (suc i) (x ∷ cells) (q ∷ parts) c p h k = ap (λ l. filled_part size x q ∷ l) (parts_filled-more size i cells parts c p (omega arith) (omega arith))
 
 -- a loop that has filled i pages fills the next one
-pub fills_more : (size low i : ℕ) (cells : List Cell) (pages now : List Page) (c : Cell) (p new : Page) → now ≡ pages_filled size i (drop low cells) pages → c ≡ get_or cells (low + i) c → p ≡ get_or now i p
-    → low + i < length cells → i < length pages → new ≡ filled_page size c p → set now i new ≡ pages_filled size (i + 1) (drop low cells) pages
-fills_more size low i cells pages now c p new e at there h k is =
+pub fills_more : (size low i : ℕ) (cells : List Cell) (parts now : List Part) (c : Cell) (p new : Part) → now ≡ parts_filled size i (drop low cells) parts → c ≡ get_or cells (low + i) c → p ≡ get_or now i p
+    → low + i < length cells → i < length parts → new ≡ filled_part size c p → set now i new ≡ parts_filled size (i + 1) (drop low cells) parts
+fills_more size low i cells parts now c p new e at there h k is =
     let one : suc i ≡ i + 1 = omega arith in
     let cell : c ≡ get_or (drop low cells) i c = at ∙ sym (get_or-drop low cells i c) in
-    let page : p ≡ get_or pages i p = there ∙ ap (λ l. get_or l i p) e ∙ pages_filled-next size i (drop low cells) pages p in
-    let here : new ≡ filled_page size (get_or (drop low cells) i c) (get_or pages i p) = is ∙ ap (λ x. filled_page size x p) cell ∙ ap (filled_page size (get_or (drop low cells) i c)) page in
-    ap (λ l. set l i new) e ∙ ap (set (pages_filled size i (drop low cells) pages) i) here
-    ∙ sym (pages_filled-more size i (drop low cells) pages c p (omega (arith, length-drop low cells)) k) ∙ ap (λ m. pages_filled size m (drop low cells) pages) one
+    let part : p ≡ get_or parts i p = there ∙ ap (λ l. get_or l i p) e ∙ parts_filled-next size i (drop low cells) parts p in
+    let here : new ≡ filled_part size (get_or (drop low cells) i c) (get_or parts i p) = is ∙ ap (λ x. filled_part size x p) cell ∙ ap (filled_part size (get_or (drop low cells) i c)) part in
+    ap (λ l. set l i new) e ∙ ap (set (parts_filled size i (drop low cells) parts) i) here
+    ∙ sym (parts_filled-more size i (drop low cells) parts c p (omega (arith, length-drop low cells)) k) ∙ ap (λ m. parts_filled size m (drop low cells) parts) one
+
+-- the pages of such parts are filled
+pub pages_of-filled : (size n : ℕ) (cells : List Cell) (parts : List Part) → pages_of (parts_filled size n cells parts) ≡ pages_filled size n cells (pages_of parts)
+pages_of-filled size zero cells parts = refl
+pages_of-filled size (suc n) [] parts = refl
+pages_of-filled size (suc n) (c ∷ cells) [] = refl
+pages_of-filled size (suc n) (c ∷ cells) (p ∷ parts) = ap (λ l. filled_page size c p.page ∷ l) (pages_of-filled size n cells parts)
+
+-- and their sectors stay
+pub part_sectors-filled : (size n : ℕ) (cells : List Cell) (parts : List Part) → part_sectors (parts_filled size n cells parts) ≡ part_sectors parts
+part_sectors-filled size zero cells parts = refl
+part_sectors-filled size (suc n) [] parts = refl
+part_sectors-filled size (suc n) (c ∷ cells) [] = refl
+part_sectors-filled size (suc n) (c ∷ cells) (p ∷ parts) = ap (λ l. p.sector ∷ l) (part_sectors-filled size n cells parts)
 
 -- what the device has of a block at home that is not dirty is its content
 pub stored-content : (size b : ℕ) (c : Cell) (content : Content) (stakes : List RangeStake) → IsCleanHome c → IsTrueAt size b c content stakes → stored_bytes size c ≡ content

@@ -33,6 +33,7 @@ pub mod FirstTruth
 pub mod FoundLemmas
 pub mod GatheredParts
 pub mod HomeLemmas
+pub mod JudgeLemmas
 pub mod KeptPlaces
 pub mod KindLemmas
 pub mod KindRuns
@@ -59,6 +60,7 @@ pub mod PlaceLemmas
 pub mod PlaceSpace
 pub mod PlaceTruth
 pub mod PoolLemmas
+pub mod PutAnswers
 pub mod RefusedAlikeLemmas
 pub mod RefusedLemmas
 pub mod ReserveLemmas

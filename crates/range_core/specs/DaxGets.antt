@@ -7,10 +7,11 @@ use Rattle.io_model.specs.Contents.{Content}
 use Rattle.iov_iter.specs.IovView.{IovView, written_on}
 use Rattle.range_core.specs.ByteRuns.{HasNext, run_between, run_bytes}
 use Rattle.range_core.specs.ClaimsView.{ClaimsView}
-use Rattle.range_core.specs.DirectNows.{IsReady, PassesNow, RefusesNow, stored_bytes}
+use Rattle.range_core.specs.DirectNows.{IsReady, stored_bytes}
 use Rattle.range_core.specs.EntryStamps.{stamps_met}
 use Rattle.range_core.specs.Events.{with_stamps}
 use Rattle.range_core.specs.Fetches.{replayed_run}
+use Rattle.range_core.specs.Judges.{Judges, Passes, RefusesNow}
 use Rattle.range_core.specs.Kinds.{is_mapped}
 use Rattle.range_core.specs.Outcomes.{finished}
 use Rattle.range_core.specs.RangeTruth.{IsUncached}
@@ -61,6 +62,17 @@ stored_run r from to = let size = r.geometry.block_size in run_bytes (run_betwee
 abbrev pub after_dax_get : RangeView → Tag → ℕ → ℕ → RangeView
 after_dax_get r by from to = with_stamps r (stamps_met r.geometry.block_size by from to)
 
+-- What came of such a read, whatever judged it: the bytes as the device has them and a stamp on each block met, after one judgement where the blocks are mapped; or a refusal, which left all but the judge as it was
+pub record AnswersGet {J : Type 0} (step : J → ℕ → Done → J → Type 0) (was now : J) (before : RangeView) (by : Tag) (seen : Sample) (from to : ℕ) (iov : IovView) (after : RangeView) (later : IovView) (answer : Result (Unit {0}) EventFault) : Type 0 where
+  pub made : OnOk answer (stale before seen ≡ None)
+  pub state : OnOk answer (after ≡ after_dax_get before by from to)
+  pub bytes : OnOk answer (later ≡ written_on (stored_run before from to) iov)
+  pub judged : Judges step (blocks_met before.geometry.block_size from to) was now
+  pub passed : OnOk answer (Passes (is_mapped seen.extent.kind) judged.answer)
+  pub refused : IfErr answer (RefusesNow (stale before seen) (is_mapped seen.extent.kind) judged.answer)
+  pub unchanged : OnErr answer (after ≡ before)
+  pub nothing : OnErr answer (later ≡ iov)
+
 -- The turn may begin: a judgement may be asked for, and the event's conditions hold of the range as it was opened and of what the seat has seen
 pub record MayGetDax {F : Type 0} (may : F → ℕ → Type 0) (change : DaxGetRun F) (opening : RangeView) (history : List Entry) : Type 0 where
   pub judge : (m : ℕ) → 0 < m → may change.judge m
@@ -71,7 +83,7 @@ pub record MayGetDax {F : Type 0} (may : F → ℕ → Type 0) (change : DaxGetR
 abbrev pub dax_get_entry : ClaimsView → Tag → Sample → ℕ → ℕ → Result (Unit {0}) EventFault → Entry
 dax_get_entry claims by seen from to answer = record { caller = claims.caller; event = DaxGet by seen from to; outcome = finished answer }
 
--- The turn gave the bytes as the history leaves them and left its stamps, after one judgement where the blocks are mapped; or it was refused, and changed nothing but the judge
+-- The turn gave the bytes as the history leaves them and left its stamps, or was refused, as the event answers
 pub record GotDax {F : Type 0} (step : F → ℕ → Done → F → Type 0) (change : DaxGetRun F) (opening : RangeView) (history : List Entry) (before : RangeView) (claims : ClaimsView) (later : DaxGetRun F) (after : RangeView) (left : ClaimsView) (answer : Result (Unit {0}) EventFault) (entry : Entry) : Type 0 where
   pub by : later.by ≡ change.by
   pub seen : later.seen ≡ change.seen
@@ -79,12 +91,6 @@ pub record GotDax {F : Type 0} (step : F → ℕ → Done → F → Type 0) (cha
   pub to : later.to ≡ change.to
   pub same_iov : later.iov.ghost_name ≡ change.iov.ghost_name
   pub claims_are : left ≡ claims
-  pub made : OnOk answer (stale before change.seen ≡ None)
-  pub state : OnOk answer (after ≡ after_dax_get before change.by change.from change.to)
-  pub stored : OnOk answer (later.iov.now ≡ written_on (stored_run before change.from change.to) change.iov.now)
+  pub answers : AnswersGet step change.judge later.judge before change.by change.seen change.from change.to change.iov.now after later.iov.now answer
   pub bytes : OnOk answer (later.iov.now ≡ written_on (replayed_run opening history change.from change.to) change.iov.now)
-  pub judged : OnOk answer (PassesNow (is_mapped change.seen.extent.kind) (λ done. step change.judge (blocks_met before.geometry.block_size change.from change.to) done later.judge) (later.judge ≡ change.judge))
-  pub refused : IfErr answer (RefusesNow (stale before change.seen) (is_mapped change.seen.extent.kind) (λ done. step change.judge (blocks_met before.geometry.block_size change.from change.to) done later.judge) (later.judge ≡ change.judge))
-  pub unchanged : OnErr answer (after ≡ before)
-  pub nothing : OnErr answer (later.iov.now ≡ change.iov.now)
   pub entry_is : entry ≡ dax_get_entry claims change.by change.seen change.from change.to answer

@@ -1,5 +1,5 @@
 -- What a turn that writes bytes straight into the sectors of a file does.
-use Rattle.std.specs.Prelude.{◌≡◌, ℕ, ◌+◌, ◌-◌, ◌/◌, ◌<◌, true, false, not, Option, Some, None, List, length, All, Result, Ok, Err, IfErr, IsSomeAnd, OnOk, slice_get}
+use Rattle.std.specs.Prelude.{◌≡◌, ℕ, ◌+◌, ◌-◌, ◌/◌, ◌<◌, true, false, not, Option, Some, None, List, length, All, Result, Ok, Err, IfErr, IsSomeAnd, OnErr, OnOk, slice_get}
 use Rattle.fault_device.specs.declared.lane.Done.{Done}
 use Rattle.iob_base.specs.DeviceBlock.{DeviceBlock}
 use Rattle.iob_base.specs.declared.stamp.Tag.{Tag}
@@ -16,6 +16,7 @@ use Rattle.range_core.specs.DaxPools.{GivesUp}
 use Rattle.range_core.specs.DaxGets.{IsThrough}
 use Rattle.range_core.specs.EntryCounts.{one_where}
 use Rattle.range_core.specs.Events.{with_stamps}
+use Rattle.range_core.specs.Judges.{Judges, Passes}
 use Rattle.range_core.specs.Kinds.{is_mapped}
 use Rattle.range_core.specs.OnRun.{with_each}
 use Rattle.range_core.specs.Placing.{count_in, is_empty, placed_at}
@@ -32,6 +33,7 @@ use Rattle.range_core.specs.Through.{made_mapped, through}
 use Rattle.range_core.specs.declared.cell.Cell.{Cell}
 use Rattle.range_core.specs.declared.entry.Entry.{Entry}
 use Rattle.range_core.specs.declared.entry.Event.TheVariants.{DaxPut}
+use Rattle.range_core.specs.declared.entry.Outcome.{Outcome}
 use Rattle.range_core.specs.declared.entry.Outcome.TheVariants.{Refused, Took}
 use Rattle.range_core.specs.declared.fault.EventFault.{EventFault}
 use Rattle.range_core.specs.declared.fault.EventFault.TheVariants as fault
@@ -78,13 +80,13 @@ pub record PutsDax (opening : PoolView) (before : RangeView) (by : Tag) (seen : 
   pub reserved : TurnsFor (holes_met before from to) (ReservesAt opening (holes_met before from to) (Ok tt)) (place_of before) promised
   pub took : TurnsFor (holes_met before from to) (TakesAt opening (holes_met before from to) sectors) promised (place_of after)
 
--- why nothing was written: for what hinders; else for want of memory, or of space for so many holes, before any judgement; else for a judgement, which tells that it failed
-abbrev pub RefusesPut : ℕ → Option EventFault → (Done → Type 0) → Type 0 → EventFault → Type 0
-RefusesPut holes (Some refusal) told same e = (e ≡ refusal) × same
-RefusesPut holes None told same fault.NoMemory = same
-RefusesPut holes None told same (fault.NoSpace wanted found) = (wanted ≡ holes) × (found < holes) × same
-RefusesPut holes None told same (fault.Poison done) = (done.failed ≡ true) × told done
-RefusesPut holes None told same _ = ⊥
+-- why nothing was written: for what hinders; else for want of memory, or of space for so many holes, before any judgement; else for a judgement, which failed
+abbrev pub RefusesPut : ℕ → Option EventFault → Option Done → EventFault → Type 0
+RefusesPut holes (Some refusal) told e = (e ≡ refusal) × (told ≡ None)
+RefusesPut holes None told fault.NoMemory = told ≡ None
+RefusesPut holes None told (fault.NoSpace wanted found) = (wanted ≡ holes) × (found < holes) × (told ≡ None)
+RefusesPut holes None told (fault.Poison done) = (done.failed ≡ true) × (told ≡ Some done)
+RefusesPut holes None told _ = ⊥
 
 -- what a refused write leaves: the range as it was, but for its seat where that had turns at the pool
 abbrev pub LeavesPut : PoolView → ℕ → EventFault → RangeView → RangeView → Type 0
@@ -92,9 +94,16 @@ LeavesPut opening holes (fault.NoSpace wanted found) before after = (after ≡ a
 LeavesPut opening holes (fault.Poison done) before after = (after ≡ at_seat before after.seat) × GivesUp opening holes (place_of before) (place_of after)
 LeavesPut opening holes _ before after = after ≡ before
 
--- a judgement was made, and did not fail
-abbrev pub Passes : (Done → Type 0) → Type 0
-Passes told = (done : Done) × (done.failed ≡ false) × told done
+-- What came of such a write, whatever judged it: the bytes are in the sectors of the blocks met, which are mapped and stamped, after one judgement of them; or a refusal, before which no byte moved
+pub record AnswersPut {J : Type 0} (step : J → ℕ → Done → J → Type 0) (was now : J) (opening : PoolView) (before : RangeView) (by : Tag) (seen : Sample) (from to : ℕ) (iov : IovView) (after : RangeView) (later : IovView) (answer : Result (Unit {0}) EventFault) : Type 0 where
+  pub made : OnOk answer (dax_put_refusal before seen ≡ None)
+  pub state : OnOk answer (PutsDax opening before by seen from to (next_bytes iov (to - from)) after)
+  pub moved : OnOk answer (later ≡ past iov (to - from))
+  pub judged : Judges step (blocks_met before.geometry.block_size from to) was now
+  pub passed : OnOk answer (Passes true judged.answer)
+  pub refused : IfErr answer (RefusesPut (holes_met before from to) (dax_put_refusal before seen) judged.answer)
+  pub unchanged : IfErr answer (λ e. LeavesPut opening (holes_met before from to) e before after)
+  pub nothing : OnErr answer (later ≡ iov)
 
 -- the bytes that such a turn has of its iov
 abbrev pub put_bytes : {R F : Type 0} → DaxPutRun R F → List ℕ
@@ -108,23 +117,16 @@ pub record MayPutDax {R F : Type 0} (may : F → ℕ → Type 0) (change : DaxPu
   pub given : WasGiven change.seen history
   pub pool : opening.seat.cell ≡ (pool_cell change.space.now).cell
 
--- It came about, and this is its entry
+-- the entry of such a turn
+abbrev pub put_entry : {R F : Type 0} → ClaimsView → DaxPutRun R F → Outcome → Entry
+put_entry claims change outcome = record { caller = claims.caller; event = DaxPut change.by change.seen change.from change.to (put_bytes change); outcome = outcome }
+
+-- It came about, and the entry tells which sectors the holes took
 pub record PutMade {R F : Type 0} (change : DaxPutRun R F) (before after : RangeView) (claims : ClaimsView) (entry : Entry) : Type 0 where
-  pub made : dax_put_refusal before change.seen ≡ None
   pub puts : PutsDax (pool_cell change.space.now).opening before change.by change.seen change.from change.to (put_bytes change) after
-  pub entry_is : entry ≡ record { caller = claims.caller; event = DaxPut change.by change.seen change.from change.to (put_bytes change); outcome = Took (pairs_taken is_empty before (change.from / before.geometry.block_size) (blocks_met before.geometry.block_size change.from change.to) puts.sectors) }
+  pub entry_is : entry ≡ put_entry claims change (Took (pairs_taken is_empty before (change.from / before.geometry.block_size) (blocks_met before.geometry.block_size change.from change.to) puts.sectors))
 
--- It was refused
-pub record PutRefused {R F : Type 0} (step : F → ℕ → Done → F → Type 0) (change later : DaxPutRun R F) (before after : RangeView) (claims : ClaimsView) (entry : Entry) (e : EventFault) : Type 0 where
-  pub refused : RefusesPut (holes_met before change.from change.to) (dax_put_refusal before change.seen) (λ done. step change.judge (blocks_met before.geometry.block_size change.from change.to) done later.judge) (later.judge ≡ change.judge) e
-  pub leaves : LeavesPut (pool_cell change.space.now).opening (holes_met before change.from change.to) e before after
-  pub nothing : later.iov.now ≡ change.iov.now
-  pub entry_is : entry ≡ record { caller = claims.caller; event = DaxPut change.by change.seen change.from change.to (put_bytes change); outcome = Refused e }
-
-abbrev pub PutErr : {R F : Type 0} → (F → ℕ → Done → F → Type 0) → DaxPutRun R F → DaxPutRun R F → RangeView → RangeView → ClaimsView → Entry → Result (Unit {0}) EventFault → Type 0
-PutErr step change later before after claims entry answer = IfErr answer (PutRefused step change later before after claims entry)
-
--- The turn wrote the iov's bytes into the sectors of the blocks met after one judgement of them, or was refused
+-- The turn wrote the iov's bytes into the sectors of the blocks met, or was refused, as the event answers
 pub record PutDax {R F : Type 0} (step : F → ℕ → Done → F → Type 0) (change : DaxPutRun R F) (before : RangeView) (claims : ClaimsView) (later : DaxPutRun R F) (after : RangeView) (left : ClaimsView) (answer : Result (Unit {0}) EventFault) (entry : Entry) : Type 0 where
   pub rt : later.rt ≡ change.rt
   pub space : later.space ≡ change.space
@@ -134,7 +136,6 @@ pub record PutDax {R F : Type 0} (step : F → ℕ → Done → F → Type 0) (c
   pub to : later.to ≡ change.to
   pub same_iov : later.iov.ghost_name ≡ change.iov.ghost_name
   pub claims_are : left ≡ claims
+  pub answers : AnswersPut step change.judge later.judge (pool_cell change.space.now).opening before change.by change.seen change.from change.to change.iov.now after later.iov.now answer
   pub ok : OnOk answer (PutMade change before after claims entry)
-  pub judged : OnOk answer (Passes (λ done. step change.judge (blocks_met before.geometry.block_size change.from change.to) done later.judge))
-  pub moved : OnOk answer (later.iov.now ≡ past change.iov.now (change.to - change.from))
-  pub err : PutErr step change later before after claims entry answer
+  pub err : IfErr answer (λ e. entry ≡ put_entry claims change (Refused e))

@@ -1,15 +1,13 @@
 -- What a turn that reads a run of blocks past the page cache does.
-use Rattle.std.specs.Prelude.{◌≡◌, ℕ, ◌+◌, ◌-◌, ◌<◌, Result, Ok, Err, Some, None, List, length, map, IfErr, IfOk, OnErr, OnOk, slice_get}
+use Rattle.std.specs.Prelude.{◌≡◌, ℕ, ◌+◌, ◌-◌, ◌<◌, Result, Ok, Err, Some, List, length, IfOk, slice_get}
+use Rattle.iob_base.specs.Parting.{pages_of}
 use Rattle.iob_base.specs.declared.sector.Page.{Page}
 use Rattle.iob_base.specs.declared.stamp.Tag.{Tag}
 use Rattle.fault_device.specs.declared.lane.Done.{Done}
 use Rattle.range_core.specs.ClaimsView.{ClaimsView}
-use Rattle.range_core.specs.DirectNows.{PassesNow, RefusesNow, after_direct_now, now_count, pages_filled}
-use Rattle.range_core.specs.Events.{page_shape}
+use Rattle.range_core.specs.DirectNows.{AnswersNow}
 use Rattle.range_core.specs.RangeTruth.{content_at}
-use Rattle.range_core.specs.RangeView.{RangeView, cells_from}
-use Rattle.range_core.specs.Refusals.{direct_now_refusal}
-use Rattle.range_core.specs.Runs.{begins_mapped}
+use Rattle.range_core.specs.RangeView.{RangeView}
 use Rattle.range_core.specs.declared.entry.Entry.{Entry}
 use Rattle.range_core.specs.declared.entry.Event.TheVariants.{DirectNow}
 use Rattle.range_core.specs.declared.entry.Outcome.{Outcome}
@@ -32,20 +30,12 @@ now_entry claims by block most answer = record { caller = claims.caller; event =
 abbrev pub HaveContents : RangeView → List Entry → ℕ → ℕ → List Page → Type 0
 HaveContents opening history b n pages = (k : ℕ) (p : Page) → k < n → slice_get pages k ≡ Some p → p.bytes ≡ content_at opening history (b - opening.first + k)
 
--- The turn read the longest run that is at home and not dirty, stamped its blocks and gave their contents, or was refused and left the range and the pages as they were
+-- The turn read the longest run that is at home and not dirty, stamped its blocks and gave their contents, or was refused, as the event answers
 pub record ReadsNow {F : Type 0} (step : F → ℕ → Done → F → Type 0) (change : DirectNowRun F) (opening : RangeView) (history : List Entry) (before : RangeView) (claims : ClaimsView) (later : DirectNowRun F) (after : RangeView) (left : ClaimsView) (answer : NowAnswer) (entry : Entry) : Type 0 where
   pub by_stays : later.by ≡ change.by
   pub block_stays : later.block ≡ change.block
   pub pages_stay : later.pages.ghost_name ≡ change.pages.ghost_name
   pub claims_are : left ≡ claims
-  pub entry_is : entry ≡ now_entry claims change.by change.block (length change.pages.now.items) answer
-  pub made : OnOk answer (direct_now_refusal before change.block ≡ None)
-  pub count : IfOk answer (λ n. n ≡ now_count before change.block change.pages.now.items)
-  pub read : IfOk answer (λ n. later.pages.now.items ≡ pages_filled before.geometry.block_size n (cells_from before change.block) change.pages.now.items)
-  pub contents : IfOk answer (λ n. HaveContents opening history change.block n later.pages.now.items)
-  pub state : IfOk answer (λ n. after ≡ after_direct_now before change.by change.block n)
-  pub judged : OnOk answer (PassesNow (begins_mapped (cells_from before change.block)) (λ done. step change.judge (now_count before change.block change.pages.now.items) done later.judge) (later.judge ≡ change.judge))
-  pub refused : IfErr answer (RefusesNow (direct_now_refusal before change.block) (begins_mapped (cells_from before change.block)) (λ done. step change.judge (now_count before change.block change.pages.now.items) done later.judge) (later.judge ≡ change.judge))
-  pub unchanged : OnErr answer (after ≡ before)
-  pub unfilled : OnErr answer (later.pages.now.items ≡ change.pages.now.items)
-  pub shapes : map page_shape later.pages.now.items ≡ map page_shape change.pages.now.items
+  pub answers : AnswersNow step change.judge later.judge before change.by change.block change.pages.now after later.pages.now answer
+  pub contents : IfOk answer (λ n. HaveContents opening history change.block n (pages_of later.pages.now))
+  pub entry_is : entry ≡ now_entry claims change.by change.block (length (pages_of change.pages.now)) answer

@@ -21,6 +21,7 @@ pub mod Events
 pub mod Fetches
 pub mod FindDues
 pub mod Happened
+pub mod Judges
 pub mod Kinds
 pub mod KnownSamples
 pub mod Lasting

@@ -1,12 +1,7 @@
 //! What a range lends, and what a seat's claim tells of it.
-use arrayvec::ArrayVec;
 use io_model::Kind;
-use iob_base::{Op, Page, Parts, Tag};
-use std::alloc::Global;
+use iob_base::{Op, Parts, Tag};
 use std::snapshot::Snapshot;
-
-/// The pages of one transfer.
-pub type Pages = ArrayVec<Page, 16, Global>;
 
 /// The event that lent a block: a read of it into the page cache, a write of its dirty page, or a transfer of a
 /// caller's own pages.

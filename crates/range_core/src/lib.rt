@@ -64,7 +64,7 @@ pub use laws::{
     return_frees_claim, sectors_last, store_leaves_zeros_around, store_stamps_each_block,
     unlawful_cannot_happen, wipe_leaves_a_hole, writeback_maps, writes_are_stamped,
 };
-pub use lending::{Away, Held, Lender, Lent, Pages};
+pub use lending::{Away, Held, Lender, Lent};
 pub use loan_answer::{LendRefused, Written};
 pub use range::{
     AttachRun, DaxGetRun, DaxPutRun, DaxZeroRun, DirectBackRun, DirectNowRun, DropCleanRun,

@@ -1,6 +1,5 @@
 //! A caller's turns that lend blocks, and those that bring them back after a transfer.
 ghost use Rattle.std.specs.Prelude.{◌≡◌, ◌+◌, ◌<◌, ◌≤◌, [], Some, None, All, IfOk, OnErr, length, nat_lt};
-ghost use Rattle.arrayvec.specs.ArrayVec.{array_vec_len};
 ghost use Rattle.fault_device.specs.Transfer.{CanTransfer};
 ghost use Rattle.iob_base.specs.Parting.{IsBare, pages_of};
 ghost use Rattle.range_core.specs.BlockTruth.{IsWholePage};
@@ -9,13 +8,12 @@ ghost use Rattle.range_core.specs.Returning.{parts_after};
 ghost use Rattle.worked_ranges.specs.SmallRanges.{IsWholeAndBare, Stands};
 
 use crate::range_caller::Caller;
-use arrayvec::ArrayVec;
 use fault_device::{Done, Lane, can_transfer};
 use io_model::{Extent, Kind};
 use iob_base::{Items, Op, Page, Parts, Tag};
 use range_core::{
     Direct, DirectBackRun, DirectNowRun, DirectRefused, EventFault, FillBackRun, LendDirectRun,
-    LendReadRun, LendRefused, LendWritebackRun, Lender, Lent, Pages, WrittenBackRun,
+    LendReadRun, LendRefused, LendWritebackRun, Lender, Lent, WrittenBackRun,
 };
 use std::alloc::{AllocError, Global};
 use std::process::Abort;
@@ -36,7 +34,7 @@ pub(crate) enum Loan {
 #[derive(Drop)]
 pub(crate) struct Now {
     pub(crate) blocks: u64,
-    pub(crate) pages: Pages,
+    pub(crate) pages: Parts,
 }
 
 /// Why a loan for pages of the caller's own was refused, and the list of these pages.
@@ -50,7 +48,7 @@ pub(crate) struct Refused {
 #[derive(Drop)]
 pub(crate) struct Unread {
     pub(crate) fault: EventFault,
-    pub(crate) pages: Pages,
+    pub(crate) pages: Parts,
 }
 
 /// What came back: what the transfer did, how many dirty blocks were written, and the caller's own pages.
@@ -81,20 +79,7 @@ fn page_of(alloc: Global, number: u64, fill: u8) -> Result<Page, AllocError>
     })
 }
 
-// Pages that are filled with these bytes, one each.
-fn plain_pages(alloc: Global, fills: &[u8]) -> Result<Pages, AllocError>
-    requires { length fills.now ≤ 6 }
-    ensures count { IfOk result (λ pages. array_vec_len pages ≡ length fills.now) }
-    ensures whole { IfOk result (λ pages. All (IsWholePage 16) pages.items) }
-{
-    let mut pages = ArrayVec::new_in(alloc);
-    for i in 0..fills.len() {
-        pages.push(page_of(alloc, i as u64, fills[i])?);
-    }
-    Ok(pages)
-}
-
-// The same as a list whose sectors are blank.
+// A list of pages that are filled with these bytes, one each, whose sectors are blank.
 fn list_of(alloc: Global, fills: &[u8]) -> Result<Parts, AllocError>
     requires { length fills.now ≤ 6 }
     ensures count { IfOk result (λ parts. length (pages_of parts) ≡ length fills.now) }
@@ -356,10 +341,10 @@ impl<'a, R: Abort + Wait> Caller<'a, R> {
         &mut self,
         lane: &mut Lane,
         block: u64,
-        pages: &mut Pages,
+        pages: &mut Parts,
     ) -> Result<u64, EventFault>
         requires stands { Stands self.old.ground.now.cell self.old.seat self.old.sample self.old.loan }
-        requires whole { All (IsWholePage 16) pages.old.items }
+        requires whole { All (IsWholePage 16) (pages_of pages.old) }
         ensures stands { Stands self.new.ground.now.cell self.new.seat self.new.sample self.new.loan }
     {
         self.expect_cached();
@@ -387,7 +372,7 @@ impl<'a, R: Abort + Wait> Caller<'a, R> {
         ensures stands { Stands self.new.ground.now.cell self.new.seat self.new.sample self.new.loan }
     {
         assert!(self.rt; fills.len() <= 6, "pages for blocks of the range");
-        let mut pages = plain_pages(self.alloc, fills)?;
+        let mut pages = list_of(self.alloc, fills)?;
         match self.read_turn(lane, block, &mut pages) {
             Ok(blocks) => Ok(Ok(Now { blocks, pages })),
             Err(fault) => Ok(Err(Unread { fault, pages })),

@@ -66,13 +66,6 @@ fn add_page(text: &mut String, page: &Page) -> Result<(), AllocError> {
     add_bytes(text, page.bytes.as_slice())
 }
 
-fn add_pages(text: &mut String, pages: &[Page]) -> Result<(), AllocError> {
-    for page in pages {
-        add_page(text, page)?;
-    }
-    Ok(())
-}
-
 fn add_parts(text: &mut String, parts: &[Part]) -> Result<(), AllocError> {
     for part in parts {
         add_page(text, &part.page)?;
@@ -93,7 +86,7 @@ impl Told for Unread {
     fn told(&self, alloc: Global) -> Result<String, AllocError> {
         let Unread { fault, pages } = self;
         let mut text = fault.told(alloc)?;
-        add_pages(&mut text, pages.as_slice())?;
+        add_parts(&mut text, pages.as_slice())?;
         Ok(text)
     }
 }
@@ -171,7 +164,7 @@ impl Told for Now {
     fn told(&self, alloc: Global) -> Result<String, AllocError> {
         let Now { blocks, pages } = self;
         let mut text = format!(in alloc; "read {blocks}")?;
-        add_pages(&mut text, pages.as_slice())?;
+        add_parts(&mut text, pages.as_slice())?;
         Ok(text)
     }
 }

@@ -1,8 +1,6 @@
 //! Bytes go straight between a caller and the sectors of a file that skips the page cache.
-ghost use Rattle.std.specs.Prelude.{◌≡◌, ℕ, ◌+◌, ◌-◌, ◌<◌, ◌≤◌, None, IfErr, MatchResult, OnErr, OnOk, vec_len};
+ghost use Rattle.std.specs.Prelude.{◌≡◌, ℕ, ◌+◌, ◌-◌, ◌<◌, ◌≤◌, vec_len};
 ghost use Rattle.fault_device.specs.LaneView.{lane_seen};
-ghost use Rattle.fault_device.specs.Opening.{IsServed, Opening, Serves};
-ghost use Rattle.fault_device.specs.Transfer.{Tells};
 ghost use Rattle.io_model.specs.Contents.{zeros};
 ghost use Rattle.iov_iter.specs.IovView.{written_on};
 ghost use Rattle.range_core.specs.ByteRuns.{HasNext, IsByteRun, part_bytes, run_bytes};
@@ -66,11 +64,8 @@ fn copy_through(cells: &Vec<Cell>, first: u64, run: ByteRun, blank: &[u8], iov: 
 }
 
 impl Range {
-    ghost use Rattle.range_core.specs.DaxGets.{CanGetDax, after_dax_get, stored_run};
-    ghost use Rattle.range_core.specs.DirectNows.{IsServedBy, PassesNow, RefusesNow};
-    ghost use Rattle.range_core.specs.Kinds.{is_mapped};
-    ghost use Rattle.range_core.specs.Refusals.{stale};
-    ghost use Rattle.range_core.specs.Spots.{blocks_met};
+    ghost use Rattle.range_core.specs.DaxGets.{AnswersGet, CanGetDax};
+    ghost use Rattle.range_core.specs.Judges.{AsksLane};
 
     /// Copies the bytes from one place up to another straight from the sectors to the iov, whose place moves on by them,
     /// and leaves a stamp on each block that has some of them. Mapped blocks take one judgement of the lane; blocks of
@@ -93,29 +88,11 @@ impl Range {
         iov: &mut IovIter,
     ) -> Result<(), EventFault>
         requires { CanGetDax self.old seen from to iov.old }
-
-        // What is read and stamped, and what the lane was asked.
-        ensures made { OnOk result (stale self.old seen ≡ None) }
-        ensures state { OnOk result (self.new ≡ after_dax_get self.old by from to) }
-        ensures bytes { OnOk result (iov.new ≡ written_on (stored_run self.old from to) iov.old) }
-        ensures lane { OnOk result (PassesNow (is_mapped seen.extent.kind)
-            (λ done. Tells (blocks_met self.old.geometry.block_size from to) (lane_seen count tells lane.old) done (lane_seen count tells lane.new))
-            (lane_seen count tells lane.new ≡ lane_seen count tells lane.old)) }
-
-        // Why it is refused, and what that leaves.
-        ensures refused { IfErr result (RefusesNow (stale self.old seen) (is_mapped seen.extent.kind)
-            (λ done. Tells (blocks_met self.old.geometry.block_size from to) (lane_seen count tells lane.old) done (lane_seen count tells lane.new))
-            (lane_seen count tells lane.new ≡ lane_seen count tells lane.old)) }
-        ensures unchanged { OnErr result (self.new ≡ self.old) }
-        ensures nothing { OnErr result (iov.new ≡ iov.old) }
-
-        ensures serves { (o : Opening) → Serves o (lane_seen count tells lane.old)
-            → MatchResult result (λ _. Serves o (lane_seen count tells lane.new)) (λ e. IsServedBy o e (lane_seen count tells lane.new)) }
+        ensures { AnswersGet AsksLane (lane_seen count tells lane.old) (lane_seen count tells lane.new) self.old by seen from to iov.old self.new iov.new result }
     {
         let mut judge = |n: u32| -> Done
             requires { 0 < n }
-            ensures tells { Tells n (lane_seen count tells lane.entry.now) result (lane_seen count tells lane.exit.now) }
-            ensures serves { (o : Opening) → Serves o (lane_seen count tells lane.entry.now) → IsServed o result (lane_seen count tells lane.exit.now) }
+            ensures { AsksLane (lane_seen count tells lane.entry.now) n result (lane_seen count tells lane.exit.now) }
         { lane.judge(n) };
         self.get_through(by, &mut judge, seen, from, to, iov)
     }
@@ -132,19 +109,7 @@ impl Range {
     ) -> Result<(), EventFault>
         requires judge { (m : ℕ) → 0 < m → F.pre judge.old m }
         requires can { CanGetDax self.old seen from to iov.old }
-
-        // What is read and stamped, and what the judge was asked.
-        ensures made { OnOk result (stale self.old seen ≡ None) }
-        ensures state { OnOk result (self.new ≡ after_dax_get self.old by from to) }
-        ensures bytes { OnOk result (iov.new ≡ written_on (stored_run self.old from to) iov.old) }
-        ensures judged { OnOk result (PassesNow (is_mapped seen.extent.kind)
-            (λ done. F.step judge.old (blocks_met self.old.geometry.block_size from to) done judge.new) (judge.new ≡ judge.old)) }
-
-        // Why it is refused, and what that leaves.
-        ensures refused { IfErr result (RefusesNow (stale self.old seen) (is_mapped seen.extent.kind)
-            (λ done. F.step judge.old (blocks_met self.old.geometry.block_size from to) done judge.new) (judge.new ≡ judge.old)) }
-        ensures unchanged { OnErr result (self.new ≡ self.old) }
-        ensures nothing { OnErr result (iov.new ≡ iov.old) }
+        ensures { AnswersGet F.step judge.old judge.new self.old by seen from to iov.old self.new iov.new result }
     {
         if let Some(fault) = stale_stop(self.cookie, seen) {
             return Err(fault);

@@ -1,8 +1,6 @@
 //! Bytes are written straight into the sectors of a file that skips the page cache.
-ghost use Rattle.std.specs.Prelude.{◌≡◌, ℕ, ◌+◌, ◌-◌, ◌<◌, ◌≤◌, not, nat_lt, true, None, IfErr, IsSomeAnd, MatchResult, OnErr, OnOk, length, vec_len};
+ghost use Rattle.std.specs.Prelude.{◌≡◌, ℕ, ◌+◌, ◌-◌, ◌<◌, ◌≤◌, not, nat_lt, true, IfErr, IsSomeAnd, OnErr, OnOk, length, vec_len};
 ghost use Rattle.fault_device.specs.LaneView.{lane_seen};
-ghost use Rattle.fault_device.specs.Opening.{IsServed, Opening, Serves};
-ghost use Rattle.fault_device.specs.Transfer.{Tells};
 ghost use Rattle.io_model.specs.Effects.{overlay};
 ghost use Rattle.space_pool.specs.Claims.{Fits};
 ghost use Rattle.space_pool.specs.Seats.{pool_cell};
@@ -125,10 +123,8 @@ fn reserve_judged<R: Wait, F: FnMut(u32) -> Done>(
 }
 
 impl Range {
-    ghost use Rattle.range_core.specs.DaxPuts.{CanPutDax, LeavesPut, Passes, PutsDax, RefusesPut, holes_met};
-    ghost use Rattle.range_core.specs.DirectNows.{IsServedBy};
-    ghost use Rattle.range_core.specs.Refusals.{dax_put_refusal};
-    ghost use Rattle.range_core.specs.Spots.{blocks_met};
+    ghost use Rattle.range_core.specs.DaxPuts.{AnswersPut, CanPutDax};
+    ghost use Rattle.range_core.specs.Judges.{AsksLane};
 
     /// Writes the iov's next bytes from one place up to another into the sectors of the sample's extent, and leaves a
     /// stamp on each block that has some of them. Holes take sectors of the pool, which were reserved first. The sectors
@@ -158,28 +154,11 @@ impl Range {
     ) -> Result<(), EventFault>
         requires can { CanPutDax self.old seen from to iov.old }
         requires pool { self.old.seat.cell ≡ (pool_cell space.now).cell }
-
-        // What is written and stamped, and what the lane was asked.
-        ensures made { OnOk result (dax_put_refusal self.old seen ≡ None) }
-        ensures state { OnOk result (PutsDax (pool_cell space.now).opening self.old by seen from to (next_bytes iov.old (to - from)) self.new) }
-        ensures moved { OnOk result (iov.new ≡ past iov.old (to - from)) }
-        ensures lane { OnOk result (Passes
-            (λ done. Tells (blocks_met self.old.geometry.block_size from to) (lane_seen count tells lane.old) done (lane_seen count tells lane.new))) }
-
-        // Why it is refused, and what that leaves.
-        ensures refused { IfErr result (RefusesPut (holes_met self.old from to) (dax_put_refusal self.old seen)
-            (λ done. Tells (blocks_met self.old.geometry.block_size from to) (lane_seen count tells lane.old) done (lane_seen count tells lane.new))
-            (lane_seen count tells lane.new ≡ lane_seen count tells lane.old)) }
-        ensures unchanged { IfErr result (λ e. LeavesPut (pool_cell space.now).opening (holes_met self.old from to) e self.old self.new) }
-        ensures nothing { OnErr result (iov.new ≡ iov.old) }
-
-        ensures serves { (o : Opening) → Serves o (lane_seen count tells lane.old)
-            → MatchResult result (λ _. Serves o (lane_seen count tells lane.new)) (λ e. IsServedBy o e (lane_seen count tells lane.new)) }
+        ensures { AnswersPut AsksLane (lane_seen count tells lane.old) (lane_seen count tells lane.new) (pool_cell space.now).opening self.old by seen from to iov.old self.new iov.new result }
     {
         let mut judge = |n: u32| -> Done
             requires { 0 < n }
-            ensures tells { Tells n (lane_seen count tells lane.entry.now) result (lane_seen count tells lane.exit.now) }
-            ensures serves { (o : Opening) → Serves o (lane_seen count tells lane.entry.now) → IsServed o result (lane_seen count tells lane.exit.now) }
+            ensures { AsksLane (lane_seen count tells lane.entry.now) n result (lane_seen count tells lane.exit.now) }
         { lane.judge(n) };
         self.put_through(rt, space, by, &mut judge, seen, from, to, iov)
     }
@@ -199,18 +178,7 @@ impl Range {
         requires judge { (m : ℕ) → 0 < m → F.pre judge.old m }
         requires can { CanPutDax self.old seen from to iov.old }
         requires pool { self.old.seat.cell ≡ (pool_cell space.now).cell }
-
-        // What is written and stamped, and what the judge was asked.
-        ensures made { OnOk result (dax_put_refusal self.old seen ≡ None) }
-        ensures state { OnOk result (PutsDax (pool_cell space.now).opening self.old by seen from to (next_bytes iov.old (to - from)) self.new) }
-        ensures moved { OnOk result (iov.new ≡ past iov.old (to - from)) }
-        ensures judged { OnOk result (Passes (λ done. F.step judge.old (blocks_met self.old.geometry.block_size from to) done judge.new)) }
-
-        // Why it is refused, and what that leaves.
-        ensures refused { IfErr result (RefusesPut (holes_met self.old from to) (dax_put_refusal self.old seen)
-            (λ done. F.step judge.old (blocks_met self.old.geometry.block_size from to) done judge.new) (judge.new ≡ judge.old)) }
-        ensures unchanged { IfErr result (λ e. LeavesPut (pool_cell space.now).opening (holes_met self.old from to) e self.old self.new) }
-        ensures nothing { OnErr result (iov.new ≡ iov.old) }
+        ensures answers { AnswersPut F.step judge.old judge.new (pool_cell space.now).opening self.old by seen from to iov.old self.new iov.new result }
         ensures met { IsByteRun (run_between self.old.geometry.block_size from to) }
     {
         let run = byte_run(&self.geometry, from, to);
@@ -229,7 +197,10 @@ impl Range {
         let Ok(mut sectors) = Vec::with_capacity(self.log.allocator(), holes as usize) else {
             return Err(EventFault::NoMemory);
         };
-        reserve_judged(rt, space, &mut self.seat, holes, judge, run.blocks as u32)?;
+        let n = run.blocks as u32;
+        if let Err(fault) = reserve_judged(rt, space, &mut self.seat, holes, judge, n) {
+            return Err(fault);
+        }
         take_at(rt, space, &mut self.seat, holes, &mut sectors);
         place_run(&IsEmpty {}, &mut self.cells, low, run.blocks, sectors);
         put_run(&mut self.cells, self.first, run, iov);

@@ -1,8 +1,6 @@
 //! Zeros are laid over the sectors of a file that skips the page cache.
-ghost use Rattle.std.specs.Prelude.{◌≡◌, ℕ, ◌+◌, ◌-◌, ◌<◌, ◌≤◌, true, None, IfErr, IsSomeAnd, MatchResult, OnErr, OnOk, length, vec_len};
+ghost use Rattle.std.specs.Prelude.{◌≡◌, ℕ, ◌+◌, ◌-◌, ◌<◌, ◌≤◌, true, IsSomeAnd, length, vec_len};
 ghost use Rattle.fault_device.specs.LaneView.{lane_seen};
-ghost use Rattle.fault_device.specs.Opening.{IsServed, Opening, Serves};
-ghost use Rattle.fault_device.specs.Transfer.{Tells};
 ghost use Rattle.range_core.specs.ByteRuns.{IsByteRun, run_between};
 ghost use Rattle.range_core.specs.DaxGets.{AreHomeIn};
 ghost use Rattle.range_core.specs.DaxZeros.{cleared_through, zeroed_through};
@@ -53,10 +51,8 @@ fn clear_through(cells: &mut Vec<Cell>, first: u64, run: ByteRun)
 }
 
 impl Range {
-    ghost use Rattle.range_core.specs.DaxZeros.{CanZeroDax, after_dax_zero};
-    ghost use Rattle.range_core.specs.DirectNows.{IsServedBy, PassesNow, RefusesNow};
-    ghost use Rattle.range_core.specs.Refusals.{stale};
-    ghost use Rattle.range_core.specs.Spots.{blocks_met};
+    ghost use Rattle.range_core.specs.DaxZeros.{AnswersZero, CanZeroDax};
+    ghost use Rattle.range_core.specs.Judges.{AsksLane};
 
     /// Lays zeros over the bytes from one place up to another, in the sectors of the sample's extent, and leaves a stamp
     /// on each block that has some of them. Mapped blocks take one judgement of the lane. Blocks of other kinds read as
@@ -80,27 +76,11 @@ impl Range {
         to: u64,
     ) -> Result<(), EventFault>
         requires { CanZeroDax self.old seen from to }
-
-        // What is written and stamped, and what the lane was asked.
-        ensures made { OnOk result (stale self.old seen ≡ None) }
-        ensures state { OnOk result (self.new ≡ after_dax_zero self.old by from to) }
-        ensures lane { OnOk result (PassesNow (is_mapped seen.extent.kind)
-            (λ done. Tells (blocks_met self.old.geometry.block_size from to) (lane_seen count tells lane.old) done (lane_seen count tells lane.new))
-            (lane_seen count tells lane.new ≡ lane_seen count tells lane.old)) }
-
-        // Why it is refused, and what that leaves.
-        ensures refused { IfErr result (RefusesNow (stale self.old seen) (is_mapped seen.extent.kind)
-            (λ done. Tells (blocks_met self.old.geometry.block_size from to) (lane_seen count tells lane.old) done (lane_seen count tells lane.new))
-            (lane_seen count tells lane.new ≡ lane_seen count tells lane.old)) }
-        ensures unchanged { OnErr result (self.new ≡ self.old) }
-
-        ensures serves { (o : Opening) → Serves o (lane_seen count tells lane.old)
-            → MatchResult result (λ _. Serves o (lane_seen count tells lane.new)) (λ e. IsServedBy o e (lane_seen count tells lane.new)) }
+        ensures { AnswersZero AsksLane (lane_seen count tells lane.old) (lane_seen count tells lane.new) self.old by seen from to self.new result }
     {
         let mut judge = |n: u32| -> Done
             requires { 0 < n }
-            ensures tells { Tells n (lane_seen count tells lane.entry.now) result (lane_seen count tells lane.exit.now) }
-            ensures serves { (o : Opening) → Serves o (lane_seen count tells lane.entry.now) → IsServed o result (lane_seen count tells lane.exit.now) }
+            ensures { AsksLane (lane_seen count tells lane.entry.now) n result (lane_seen count tells lane.exit.now) }
         { lane.judge(n) };
         self.zero_through(by, &mut judge, seen, from, to)
     }
@@ -116,17 +96,7 @@ impl Range {
     ) -> Result<(), EventFault>
         requires judge { (m : ℕ) → 0 < m → F.pre judge.old m }
         requires can { CanZeroDax self.old seen from to }
-
-        // What is written and stamped, and what the judge was asked.
-        ensures made { OnOk result (stale self.old seen ≡ None) }
-        ensures state { OnOk result (self.new ≡ after_dax_zero self.old by from to) }
-        ensures judged { OnOk result (PassesNow (is_mapped seen.extent.kind)
-            (λ done. F.step judge.old (blocks_met self.old.geometry.block_size from to) done judge.new) (judge.new ≡ judge.old)) }
-
-        // Why it is refused, and what that leaves.
-        ensures refused { IfErr result (RefusesNow (stale self.old seen) (is_mapped seen.extent.kind)
-            (λ done. F.step judge.old (blocks_met self.old.geometry.block_size from to) done judge.new) (judge.new ≡ judge.old)) }
-        ensures unchanged { OnErr result (self.new ≡ self.old) }
+        ensures answers { AnswersZero F.step judge.old judge.new self.old by seen from to self.new result }
         ensures met { IsByteRun (run_between self.old.geometry.block_size from to) }
     {
         let run = byte_run(&self.geometry, from, to);

@@ -1,12 +1,12 @@
 //! A run of blocks is read past the page cache, inside one turn.
-ghost use Rattle.std.specs.Prelude.{◌≡◌, ℕ, ◌+◌, ◌<◌, ◌≤◌, ◌^◌, drop, length, map, All, IfErr, IfOk, MatchResult, OnErr, OnOk, vec_len};
+ghost use Rattle.std.specs.Prelude.{◌≡◌, ℕ, ◌+◌, ◌<◌, ◌≤◌, ◌^◌, drop, length, All, vec_len};
 ghost use Rattle.std.specs.List.{prefix_len};
 ghost use Rattle.fault_device.specs.LaneView.{lane_seen};
-ghost use Rattle.fault_device.specs.Opening.{IsServed, Opening, Serves};
-ghost use Rattle.fault_device.specs.Transfer.{Tells};
+ghost use Rattle.iob_base.specs.Parting.{pages_of};
 ghost use Rattle.range_core.specs.BlockTruth.{IsWholePage};
 ghost use Rattle.range_core.specs.Cells.{IsPlaced};
-ghost use Rattle.range_core.specs.DirectNows.{AreReady, AskedNow, filled_page, is_clean_home, now_length, pages_filled, without_mapped_page};
+ghost use Rattle.range_core.specs.DirectNows.{AreReady, filled_page, filled_part, is_clean_home, now_length, parts_filled, without_mapped_page};
+ghost use Rattle.range_core.specs.Judges.{AskedNow};
 ghost use Rattle.range_core.specs.Kinds.{is_mapped};
 ghost use Rattle.range_core.specs.OnRun.{on_run};
 ghost use Rattle.range_core.specs.Refusals.{◌orElse◌, away, dirty, first_that_stops};
@@ -16,13 +16,12 @@ use crate::cell::{Cell, is_mapped_kind};
 use crate::claims::Claims;
 use crate::fault::EventFault;
 use crate::fresh::zero_bytes;
-use crate::lending::Pages;
 use crate::run::run_at;
 use crate::stamps::stamp_done;
 use crate::stops::{IsAway, IsDirty, first_stop};
 use fault_device::{Done, Lane};
 use io_model::Kind;
-use iob_base::{Page, Tag};
+use iob_base::{Page, Part, Parts, Tag};
 use turn_cell::Change;
 
 /// What hinders a read from the first of these blocks on.
@@ -95,16 +94,26 @@ fn fill_page(size: u32, cell: &Cell, page: &mut Page)
     page.bytes.copy_from_slice(sector.bytes());
 }
 
-/// Fills the first `n` pages with what the device has of the blocks from the place `low` on.
-fn fill_pages(size: u32, cells: &Vec<Cell>, low: usize, n: usize, pages: &mut [Page])
+/// Fills the page of a part with what the device has of a block at home. Its sector stays.
+fn fill_part(size: u32, cell: &Cell, part: &mut Part)
+    requires placed { IsPlaced size cell.now }
+    requires home { cell.now.away ≡ None }
+    requires whole { IsWholePage size part.old.page }
+    ensures { part.new ≡ filled_part size cell.now part.old }
+{
+    fill_page(size, cell, &mut part.page);
+}
+
+/// Fills the pages of the first `n` parts with what the device has of the blocks from the place `low` on.
+fn fill_parts(size: u32, cells: &Vec<Cell>, low: usize, n: usize, parts: &mut [Part])
     requires cells { low + n ≤ vec_len cells.now }
-    requires pages { n ≤ length pages.old }
+    requires parts { n ≤ length parts.old }
     requires ready { AreReady size n (drop low cells.now.items) }
-    requires whole { All (IsWholePage size) pages.old }
-    ensures { pages.new ≡ pages_filled size n (drop low cells.now.items) pages.old }
+    requires whole { All (IsWholePage size) (pages_of parts.old) }
+    ensures { parts.new ≡ parts_filled size n (drop low cells.now.items) parts.old }
 {
     for i in 0..n {
-        fill_page(size, &cells[low + i], &mut pages[i]);
+        fill_part(size, &cells[low + i], &mut parts[i]);
     }
 }
 
@@ -129,16 +138,14 @@ fn drop_mapped_run(cells: &mut Vec<Cell>, low: usize, n: usize)
 }
 
 impl Range {
-    ghost use Rattle.range_core.specs.DirectNows.{CanReadNow, IsServedBy, PassesNow, RefusesNow, after_direct_now, now_count};
-    ghost use Rattle.range_core.specs.Events.{page_shape};
-    ghost use Rattle.range_core.specs.RangeView.{cells_from};
-    ghost use Rattle.range_core.specs.Refusals.{direct_now_refusal};
-    ghost use Rattle.range_core.specs.Runs.{begins_mapped};
+    ghost use Rattle.range_core.specs.DirectNows.{AnswersNow, CanReadNow};
+    ghost use Rattle.range_core.specs.Judges.{AsksLane};
 
     /// Reads, inside its turn and past the page cache, the longest run of one extent from `block` on that is at home and
-    /// not dirty, of at most as many blocks as there are pages. It fills the first pages, stamps these blocks and answers
-    /// their number. Mapped blocks take one judgement of the lane, and lose their pages in the cache; blocks of other
-    /// kinds read as zeros and take none. Pages keep their numbers and lengths.
+    /// not dirty, of at most as many blocks as there are pages. The pages come in a list of parts with blank sectors. It
+    /// fills the first pages, stamps these blocks and answers their number. Mapped blocks take one judgement of the lane,
+    /// and lose their pages in the cache; blocks of other kinds read as zeros and take none. Pages keep their numbers and
+    /// lengths.
     ///
     /// # Errors
     ///
@@ -149,34 +156,14 @@ impl Range {
         by: Tag,
         lane: &mut Lane,
         block: u64,
-        pages: &mut Pages,
+        pages: &mut Parts,
     ) -> Result<u64, EventFault>
-        requires { CanReadNow self.old block pages.old.items }
-
-        // How far it goes, what the pages have then, and what is stamped.
-        ensures made { OnOk result (direct_now_refusal self.old block ≡ None) }
-        ensures count { IfOk result (λ n. n ≡ now_count self.old block pages.old.items) }
-        ensures read { IfOk result (λ n. pages.new.items ≡ pages_filled self.old.geometry.block_size n (cells_from self.old block) pages.old.items) }
-        ensures state { IfOk result (λ n. self.new ≡ after_direct_now self.old by block n) }
-        ensures lane { OnOk result (PassesNow (begins_mapped (cells_from self.old block))
-            (λ done. Tells (now_count self.old block pages.old.items) (lane_seen count tells lane.old) done (lane_seen count tells lane.new))
-            (lane_seen count tells lane.new ≡ lane_seen count tells lane.old)) }
-
-        // Why it is refused, and what that leaves.
-        ensures refused { IfErr result (RefusesNow (direct_now_refusal self.old block) (begins_mapped (cells_from self.old block))
-            (λ done. Tells (now_count self.old block pages.old.items) (lane_seen count tells lane.old) done (lane_seen count tells lane.new))
-            (lane_seen count tells lane.new ≡ lane_seen count tells lane.old)) }
-        ensures unchanged { OnErr result (self.new ≡ self.old) }
-        ensures unfilled { OnErr result (pages.new.items ≡ pages.old.items) }
-
-        ensures shapes { map page_shape pages.new.items ≡ map page_shape pages.old.items }
-        ensures serves { (o : Opening) → Serves o (lane_seen count tells lane.old)
-            → MatchResult result (λ _. Serves o (lane_seen count tells lane.new)) (λ e. IsServedBy o e (lane_seen count tells lane.new)) }
+        requires { CanReadNow self.old block (pages_of pages.old) }
+        ensures { AnswersNow AsksLane (lane_seen count tells lane.old) (lane_seen count tells lane.new) self.old by block pages.old self.new pages.new result }
     {
         let mut judge = |n: u32| -> Done
             requires { 0 < n }
-            ensures tells { Tells n (lane_seen count tells lane.entry.now) result (lane_seen count tells lane.exit.now) }
-            ensures serves { (o : Opening) → Serves o (lane_seen count tells lane.entry.now) → IsServed o result (lane_seen count tells lane.exit.now) }
+            ensures { AsksLane (lane_seen count tells lane.entry.now) n result (lane_seen count tells lane.exit.now) }
         { lane.judge(n) };
         self.read_now(by, &mut judge, block, pages)
     }
@@ -187,26 +174,11 @@ impl Range {
         by: Tag,
         judge: &mut F,
         block: u64,
-        pages: &mut Pages,
+        pages: &mut Parts,
     ) -> Result<u64, EventFault>
         requires judge { (m : ℕ) → 0 < m → F.pre judge.old m }
-        requires can { CanReadNow self.old block pages.old.items }
-
-        // How far it goes, what the pages have then, and what is stamped.
-        ensures made { OnOk result (direct_now_refusal self.old block ≡ None) }
-        ensures count { IfOk result (λ n. n ≡ now_count self.old block pages.old.items) }
-        ensures read { IfOk result (λ n. pages.new.items ≡ pages_filled self.old.geometry.block_size n (cells_from self.old block) pages.old.items) }
-        ensures state { IfOk result (λ n. self.new ≡ after_direct_now self.old by block n) }
-        ensures judged { OnOk result (PassesNow (begins_mapped (cells_from self.old block))
-            (λ done. F.step judge.old (now_count self.old block pages.old.items) done judge.new) (judge.new ≡ judge.old)) }
-
-        // Why it is refused, and what that leaves.
-        ensures refused { IfErr result (RefusesNow (direct_now_refusal self.old block) (begins_mapped (cells_from self.old block))
-            (λ done. F.step judge.old (now_count self.old block pages.old.items) done judge.new) (judge.new ≡ judge.old)) }
-        ensures unchanged { OnErr result (self.new ≡ self.old) }
-        ensures unfilled { OnErr result (pages.new.items ≡ pages.old.items) }
-
-        ensures shapes { map page_shape pages.new.items ≡ map page_shape pages.old.items }
+        requires can { CanReadNow self.old block (pages_of pages.old) }
+        ensures { AnswersNow F.step judge.old judge.new self.old by block pages.old self.new pages.new result }
     {
         let at = (block - self.first) as usize;
         if let Some(fault) = now_stop(block, &self.cells[at..at + 1]) {
@@ -220,7 +192,7 @@ impl Range {
             return Err(EventFault::Poison { done });
         }
         let size = self.geometry.block_size();
-        fill_pages(size, &self.cells, at, n, pages.as_mut_slice());
+        fill_parts(size, &self.cells, at, n, pages.as_mut_slice());
         drop_mapped_run(&mut self.cells, at, n);
         self.log.add(block, n, stamp_done(by));
         Ok(n as u64)
@@ -235,7 +207,8 @@ pub struct DirectNowRun<'a, F> {
     /// A judgement of so many blocks.
     pub judge: F,
     pub block: u64,
-    pub pages: &'a mut Pages,
+    /// The list of the pages, whose sectors are blank.
+    pub pages: &'a mut Parts,
 }
 
 impl<'a, F: FnMut(u32) -> Done> Change<Range> for DirectNowRun<'a, F> {
@@ -246,7 +219,7 @@ impl<'a, F: FnMut(u32) -> Done> Change<Range> for DirectNowRun<'a, F> {
 
     type Out = Result<u64, EventFault>;
 
-    ghost ready = { λ change opening _ claims. MayTurn claims (((m : ℕ) → 0 < m → F.pre change.judge m) × CanReadNow opening change.block change.pages.now.items) };
+    ghost ready = { λ change opening _ claims. MayTurn claims (((m : ℕ) → 0 < m → F.pre change.judge m) × CanReadNow opening change.block (pages_of change.pages.now)) };
 
     ghost does = { λ change opening history before claims later after left out entry. ReadsNow F.step change opening history before claims later after left out entry };
 

@@ -1,5 +1,7 @@
-use Rattle.std.proofs.Common.{◌≡◌, ℕ, ◌+◌, ◌-◌, ◌≤◌, List, ◌++◌, Ok, All, drop, length, take, sym, ◌∙◌, ap, subst, arith}
+use Rattle.std.proofs.Common.{◌≡◌, Bool, ◌&&◌, not, None, Some, refl, ℕ, ◌+◌, ◌-◌, ◌≤◌, List, ◌++◌, Ok, All, drop, length, take, sym, ◌∙◌, ap, subst, arith}
+use Rattle.std.specs.Prelude.{nat_le}
 use Rattle.iob_base.specs.DeviceBlock.{DeviceBlock}
+use Rattle.iob_base.specs.declared.TheConstants.{WORN}
 use Rattle.iob_base.specs.declared.stamp.Stamp.{Stamp}
 use Rattle.space_pool.specs.Claims.{Fits, with_more, with_taken}
 use Rattle.space_pool.specs.Pool.{HasSize, PoolView}
@@ -9,21 +11,28 @@ use Rattle.turn_cell.specs.Stakes.{total}
 use Rattle.range_core.specs.BlockTruth.{is_gone}
 use Rattle.range_core.specs.ByteRuns.{HasNext}
 use Rattle.range_core.specs.Cells.{IsPlaced}
-use Rattle.range_core.specs.DaxPuts.{CanPutDax, PutsDax, put, put_placed}
+use Rattle.range_core.specs.DaxPuts.{CanPutDax, LeavesPut, PutsDax, RefusesPut, holes_met, put, put_placed}
 use Rattle.range_core.specs.EntryCounts.{one_where}
+use Rattle.range_core.specs.Judges.{Judges}
+use Rattle.range_core.specs.Kinds.{is_mapped}
 use Rattle.range_core.specs.OnRun.{count_on, on_each}
 use Rattle.range_core.specs.Placing.{is_empty, placed_at}
 use Rattle.range_core.specs.PoolTurns.{PoolPlace, ReservesAt, TakesAt, TurnsFor, place_at}
 use Rattle.range_core.specs.RangeView.{IsSound, LiesAt, RangeView, range_view}
+use Rattle.range_core.specs.Refusals.{◌orElse◌, dax_put_refusal, where_true, worn}
 use Rattle.range_core.specs.Space.{SpaceClaims}
 use Rattle.range_core.specs.Stamps.{done_by, stamps_from}
-use Rattle.range_core.specs.Stores.{next_bytes}
+use Rattle.range_core.specs.Spots.{blocks_met}
+use Rattle.range_core.specs.Stores.{next_bytes, past}
+use Rattle.range_core.specs.contracts.range.Range.put_through.F-FnMut.{words}
 use Rattle.range_core.specs.declared.cell.Cell.{Cell}
+use Rattle.range_core.specs.declared.fault.EventFault.TheVariants.{Stale, Worn}
 use Rattle.range_core.specs.declared.parts.ByteRun.{ByteRun}
 use Rattle.range_core.proofs.DaxPutLemmas.{empty-spaceless, full_placed, put_gone, put_sound}
 use Rattle.range_core.proofs.OnRunLemmas.{length-on_each, on_each-twice}
 use Rattle.range_core.proofs.PlaceSpace.{HasPromised, placed_gone, placed_sound, promised_holes}
 use Rattle.range_core.proofs.ReserveLemmas.{fits_holes}
+use Rattle.range_core.proofs.PutAnswers.{put_held, put_left, put_lost, put_refused_for, put_starved, put_stays}
 use Rattle.range_core.proofs.SoundLemmas.{gone-within}
 use Rattle.range_core.proofs.StoreLemmas.{length-next_bytes}
 use Rattle.range_core.proofs.range.Range.put_through.Goals as goal
@@ -69,7 +78,7 @@ put_run-requires-clause-full g c =
     let within : low + n ≤ length was = omega (arith, first, last) in
     let holes : c.count_run-holes.result ≡ count_on is_empty low n was = c.count_run-holes.ensures.count ∙ ap (count_on is_empty low n) c.deref.ensures.value in
     let size : run.size ≡ r.geometry.block_size = ap (λ (b : ByteRun). b.size) c.byte_run-run.ensures.run in
-    let base : (seat_claims c.reserve_judged.new.seat).facts ≡ with_more claims c.count_run-holes.result = c.in_ok-reserve_judged.ensures.ok.claims in
+    let base : (seat_claims c.reserve_judged.new.seat).facts ≡ with_more claims c.count_run-holes.result = c.in_default-reserve_judged.ensures.ok.claims in
     let sized : (seat_claims c.reserve_judged.new.seat).facts.size ≡ run.size = ap (λ (s : SpaceClaims). s.size) base ∙ c.self.invariant.0.space.sized ∙ sym size in
     let W : ℕ → Type 0 = λ m. All (HasSize m) sectors in
     let P : ℕ → Type 0 = λ m. All (IsPlaced m) was in
@@ -95,7 +104,7 @@ invariant_of-self-2 g c =
     let within : low + n ≤ length was = omega (arith, first, last) in
     let holes : c.count_run-holes.result ≡ count_on is_empty low n was = c.count_run-holes.ensures.count ∙ ap (count_on is_empty low n) c.deref.ensures.value in
     let size : run.size ≡ r.geometry.block_size = ap (λ (b : ByteRun). b.size) c.byte_run-run.ensures.run in
-    let told : (seat_claims c.reserve_judged.new.seat).facts ≡ with_more claims c.count_run-holes.result = c.in_ok-reserve_judged.ensures.ok.claims in
+    let told : (seat_claims c.reserve_judged.new.seat).facts ≡ with_more claims c.count_run-holes.result = c.in_default-reserve_judged.ensures.ok.claims in
     let base : (seat_claims c.reserve_judged.new.seat).facts ≡ with_more claims (count_on is_empty low n was) = told ∙ ap (with_more claims) holes in
     let H : SpaceClaims → Type 0 = λ s. HasPromised r.geometry.block_size was (total (λ d. one_where (is_empty d)) (take n (drop low was))) s in
     let had = subst H (sym base) (promised_holes r.geometry.block_size low n was claims c.self.invariant.0.space) in
@@ -115,8 +124,8 @@ invariant_of-self-2 g c =
       omega (arith, gone, gone-within was, c.add.ensures.few, c.add.ensures.kept, c.in-Ok.ensures.ok, c.len.ensures, r.cells.ok.0),
     )
 
-pub returns-clause-state : goal.returns-clause-state
-returns-clause-state g c =
+pub returns-clause-answers : goal.returns-clause-answers
+returns-clause-answers g c =
     let r = c.self.inside in
     let run : ByteRun = c.byte_run-run.result in
     let was : List Cell = r.cells.items in
@@ -130,7 +139,7 @@ returns-clause-state g c =
     let space_at : ByteRun → SpaceClaims = λ b. with_taken (with_more claims (count b)) sectors in
     let run_is = c.byte_run-run.ensures.run in
     let holes : c.count_run-holes.result ≡ count run = c.count_run-holes.ensures.count ∙ ap (count_on is_empty (run.first - r.first) run.blocks) c.deref.ensures.value in
-    let told : (seat_claims c.reserve_judged.new.seat).facts ≡ with_more claims c.count_run-holes.result = c.in_ok-reserve_judged.ensures.ok.claims in
+    let told : (seat_claims c.reserve_judged.new.seat).facts ≡ with_more claims c.count_run-holes.result = c.in_default-reserve_judged.ensures.ok.claims in
     let size : (seat_claims c.reserve_judged.new.seat).facts.size ≡ r.geometry.block_size = ap (λ (s : SpaceClaims). s.size) told ∙ c.self.invariant.0.space.sized in
     let bytes : List ℕ = next_bytes c.args.iov.now (run.to - run.from) in
     let cells : c.put_run.new.cells.items ≡ cells_at run =
@@ -150,13 +159,146 @@ returns-clause-state g c =
     let T : ℕ → Type 0 = λ m. TurnsFor m (TakesAt opened m sectors) promised (place_at (seat_view c.take_at.new.seat) (seat_claims c.take_at.new.seat).facts) in
     let after : RangeView = range_view r.geometry r.mode r.first c.put_run.new.cells.items c.add.new.self.items c.next_cookie-self-inside.result r.errors r.tickets (seat_view c.take_at.new.seat) (seat_claims c.take_at.new.seat).facts in
     let D : RangeView → Type 0 = λ v. PutsDax opened v c.args.by c.args.seen c.args.from c.args.to (next_bytes c.args.iov.now (c.args.to - c.args.from)) after in
-    subst D c.self.view_is
+    let puts = subst D c.self.view_is
     (record {
       sectors = sectors;
       as_many = c.take_at.ensures.count ∙ counted;
       whole = subst W size c.take_at.ensures.sized;
       state = λ i. make (cells_all i, log_all i, cookie i, space_all i);
       promised = promised;
-      reserved = subst R counted c.in_ok-reserve_judged.ensures.ok.turn;
+      reserved = subst R counted c.in_default-reserve_judged.ensures.ok.turn;
       took = subst T counted c.take_at.ensures.turn;
-    })
+    }) in
+    let many : run.blocks ≡ blocks_met c.args.self.now.geometry.block_size c.args.from c.args.to = ap (λ (b : ByteRun). b.blocks) run_is ∙ ap (λ (v : RangeView). blocks_met v.geometry.block_size c.args.from c.args.to) c.self.view_is in
+    let seen = c.args.seen in
+    let uses : Bool = not (is_mapped seen.extent.kind) in
+    let worn_is : c.worn_stop.result ≡ worn view uses = c.worn_stop.ensures ∙ ap (λ t. where_true (t && nat_le WORN r.cookie) (Worn r.cookie)) c.kinds_changed-changed.ensures in
+    let none : dax_put_refusal view seen ≡ None = ap (λ o. o orElse worn view uses) (sym c.stale_stop.ensures.refusal ∙ c.in_default.is) ∙ sym worn_is ∙ c.in_default-worn_stop.is in
+    let V : RangeView → Type 0 = λ v. dax_put_refusal v seen ≡ None in
+    let asked = put_held (words g.row.R g.row.F g.F.FnMut).step _ _ c.args.judge.now c.reserve_judged.new.judge opened _ _ c.count_run-holes.result many c.in_default-reserve_judged.ensures.ok in
+    record {
+      made = subst V c.self.view_is none;
+      state = puts;
+      moved = c.put_run.ensures.iov ∙ ap (λ (b : ByteRun). past c.args.iov.now (b.to - b.from)) run_is;
+      judged = asked.0;
+      passed = asked.1;
+      refused = tt;
+      unchanged = tt;
+      nothing = tt;
+    }
+
+pub returns-in-Some-clause-answers : goal.returns-in-Some-clause-answers
+returns-in-Some-clause-answers g c =
+    let seen = c.args.seen in
+    let V : RangeView → Type 0 = λ v. dax_put_refusal v seen ≡ Some c.in-Some.fault in
+    let r = c.self.inside in
+    let view : RangeView = range_view r.geometry r.mode r.first r.cells.items r.log.items r.cookie r.errors r.tickets (seat_view r.seat) (seat_claims r.seat).facts in
+    let is : dax_put_refusal view seen ≡ Some c.in-Some.fault = ap (λ o. o orElse worn view (not (is_mapped seen.extent.kind))) (sym c.stale_stop.ensures.refusal ∙ c.in-Some.is) in
+    record {
+      made = tt;
+      state = tt;
+      moved = tt;
+      judged = record { answer = None; is_asked = refl };
+      passed = tt;
+      refused = put_refused_for _ (dax_put_refusal c.args.self.now seen) c.in-Some.fault (subst V c.self.view_is is);
+      unchanged = put_stays (pool_cell c.args.space.now).opening (holes_met c.args.self.now c.args.from c.args.to) c.args.self.now _ (Stale seen.cookie r.cookie) c.in-Some.fault c.stale_stop.result c.stale_stop.ensures.refusal c.in-Some.is refl;
+      nothing = refl;
+    }
+
+pub returns-in-Some-worn_stop-clause-answers : goal.returns-in-Some-worn_stop-clause-answers
+returns-in-Some-worn_stop-clause-answers g c =
+    let r = c.self.inside in
+    let was : List Cell = r.cells.items in
+    let seen = c.args.seen in
+    let view : RangeView = range_view r.geometry r.mode r.first was r.log.items r.cookie r.errors r.tickets (seat_view r.seat) (seat_claims r.seat).facts in
+    let uses : Bool = not (is_mapped seen.extent.kind) in
+    let worn_is : c.worn_stop.result ≡ worn view uses = c.worn_stop.ensures ∙ ap (λ t. where_true (t && nat_le WORN r.cookie) (Worn r.cookie)) c.kinds_changed-changed.ensures in
+    let V : RangeView → Type 0 = λ v. dax_put_refusal v seen ≡ Some c.in-Some-worn_stop.fault in
+    let is : dax_put_refusal view seen ≡ Some c.in-Some-worn_stop.fault = ap (λ o. o orElse worn view uses) (sym c.stale_stop.ensures.refusal ∙ c.in_default.is) ∙ sym worn_is ∙ c.in-Some-worn_stop.is in
+    record {
+      made = tt;
+      state = tt;
+      moved = tt;
+      judged = record { answer = None; is_asked = refl };
+      passed = tt;
+      refused = put_refused_for _ (dax_put_refusal c.args.self.now seen) c.in-Some-worn_stop.fault (subst V c.self.view_is is);
+      unchanged = put_stays (pool_cell c.args.space.now).opening (holes_met c.args.self.now c.args.from c.args.to) c.args.self.now _ (Worn r.cookie) c.in-Some-worn_stop.fault c.worn_stop.result c.worn_stop.ensures c.in-Some-worn_stop.is refl;
+      nothing = refl;
+    }
+
+pub returns-in_default-reserve-clause-answers : goal.returns-in_default-reserve-clause-answers
+returns-in_default-reserve-clause-answers g c =
+    let r = c.self.inside in
+    let was : List Cell = r.cells.items in
+    let seen = c.args.seen in
+    let view : RangeView = range_view r.geometry r.mode r.first was r.log.items r.cookie r.errors r.tickets (seat_view r.seat) (seat_claims r.seat).facts in
+    let uses : Bool = not (is_mapped seen.extent.kind) in
+    let worn_is : c.worn_stop.result ≡ worn view uses = c.worn_stop.ensures ∙ ap (λ t. where_true (t && nat_le WORN r.cookie) (Worn r.cookie)) c.kinds_changed-changed.ensures in
+    let none : dax_put_refusal view seen ≡ None = ap (λ o. o orElse worn view uses) (sym c.stale_stop.ensures.refusal ∙ c.in_default.is) ∙ sym worn_is ∙ c.in_default-worn_stop.is in
+    let V : RangeView → Type 0 = λ v. dax_put_refusal v seen ≡ None in
+    let at : List (ℕ × Stamp) → RangeView = λ l. range_view r.geometry r.mode r.first was l r.cookie r.errors r.tickets (seat_view r.seat) (seat_claims r.seat).facts in
+    record {
+      made = tt;
+      state = tt;
+      moved = tt;
+      judged = record { answer = None; is_asked = refl };
+      passed = tt;
+      refused = put_starved _ (dax_put_refusal c.args.self.now seen) (subst V c.self.view_is none);
+      unchanged = ap at c.reserve.ensures.items ∙ c.self.view_is;
+      nothing = refl;
+    }
+
+pub returns-in_default-with_capacity-clause-answers : goal.returns-in_default-with_capacity-clause-answers
+returns-in_default-with_capacity-clause-answers g c =
+    let r = c.self.inside in
+    let was : List Cell = r.cells.items in
+    let seen = c.args.seen in
+    let view : RangeView = range_view r.geometry r.mode r.first was r.log.items r.cookie r.errors r.tickets (seat_view r.seat) (seat_claims r.seat).facts in
+    let uses : Bool = not (is_mapped seen.extent.kind) in
+    let worn_is : c.worn_stop.result ≡ worn view uses = c.worn_stop.ensures ∙ ap (λ t. where_true (t && nat_le WORN r.cookie) (Worn r.cookie)) c.kinds_changed-changed.ensures in
+    let none : dax_put_refusal view seen ≡ None = ap (λ o. o orElse worn view uses) (sym c.stale_stop.ensures.refusal ∙ c.in_default.is) ∙ sym worn_is ∙ c.in_default-worn_stop.is in
+    let V : RangeView → Type 0 = λ v. dax_put_refusal v seen ≡ None in
+    let at : List (ℕ × Stamp) → RangeView = λ l. range_view r.geometry r.mode r.first was l r.cookie r.errors r.tickets (seat_view r.seat) (seat_claims r.seat).facts in
+    record {
+      made = tt;
+      state = tt;
+      moved = tt;
+      judged = record { answer = None; is_asked = refl };
+      passed = tt;
+      refused = put_starved _ (dax_put_refusal c.args.self.now seen) (subst V c.self.view_is none);
+      unchanged = ap at c.reserve.ensures.items ∙ c.self.view_is;
+      nothing = refl;
+    }
+
+pub returns-in-Err-clause-answers : goal.returns-in-Err-clause-answers
+returns-in-Err-clause-answers g c =
+    let r = c.self.inside in
+    let was : List Cell = r.cells.items in
+    let seen = c.args.seen in
+    let view : RangeView = range_view r.geometry r.mode r.first was r.log.items r.cookie r.errors r.tickets (seat_view r.seat) (seat_claims r.seat).facts in
+    let uses : Bool = not (is_mapped seen.extent.kind) in
+    let worn_is : c.worn_stop.result ≡ worn view uses = c.worn_stop.ensures ∙ ap (λ t. where_true (t && nat_le WORN r.cookie) (Worn r.cookie)) c.kinds_changed-changed.ensures in
+    let none : dax_put_refusal view seen ≡ None = ap (λ o. o orElse worn view uses) (sym c.stale_stop.ensures.refusal ∙ c.in_default.is) ∙ sym worn_is ∙ c.in_default-worn_stop.is in
+    let opened : PoolView = (pool_cell c.args.space.now).opening in
+    let fault = c.in-Err.fault in
+    let count : ByteRun → ℕ = λ b. count_on is_empty (b.first - r.first) b.blocks was in
+    let run_is = c.byte_run-run.ensures.run in
+    let counted = c.count_run-holes.ensures.count ∙ ap (count_on is_empty (c.byte_run-run.result.first - r.first) c.byte_run-run.result.blocks) c.deref.ensures.value ∙ ap count run_is in
+    let many = ap (λ (b : ByteRun). b.blocks) run_is in
+    let make : List (ℕ × Stamp) × SpaceClaims → RangeView = λ p. range_view r.geometry r.mode r.first was p.0 r.cookie r.errors r.tickets (seat_view c.reserve_judged.new.seat) p.1 in
+    let after : RangeView = make (c.reserve.new.self.items, (seat_claims c.reserve_judged.new.seat).facts) in
+    let items = c.reserve.ensures.items in
+    let same = c.in-Err.ensures.same in
+    let Q : RangeView → Type 0 = λ v. (j : Judges (words g.row.R g.row.F g.F.FnMut).step (blocks_met v.geometry.block_size c.args.from c.args.to) c.args.judge.now c.reserve_judged.new.judge) × RefusesPut (holes_met v c.args.from c.args.to) (dax_put_refusal v seen) j.answer fault in
+    let asked = subst Q c.self.view_is (put_lost (words g.row.R g.row.F g.F.FnMut).step _ _ c.args.judge.now c.reserve_judged.new.judge opened _ _ c.count_run-holes.result (holes_met view c.args.from c.args.to) (dax_put_refusal view seen) fault many counted none c.in-Err.ensures.err) in
+    let L : RangeView → Type 0 = λ v. LeavesPut opened (holes_met v c.args.from c.args.to) fault v after in
+    record {
+      made = tt;
+      state = tt;
+      moved = tt;
+      judged = asked.0;
+      passed = tt;
+      refused = asked.1;
+      unchanged = subst L c.self.view_is (put_left opened c.count_run-holes.result (holes_met view c.args.from c.args.to) _ _ fault view after counted (λ i. make (items i, same i)) c.in-Err.ensures.err);
+      nothing = refl;
+    }

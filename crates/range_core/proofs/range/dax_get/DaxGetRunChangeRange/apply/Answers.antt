@@ -30,14 +30,8 @@ returns g c s =
         to = refl;
         same_iov = refl;
         claims_are = refl;
-        made = e.made;
-        state = e.state;
-        stored = e.bytes;
+        answers = e;
         bytes = dax_get_gives s.opening c.args.value.now s.history s.stakes x.seen x.from x.to t bytes answer x.iov.now c.get_through.new.iov e.bytes;
-        judged = e.judged;
-        refused = e.refused;
-        unchanged = e.unchanged;
-        nothing = e.nothing;
         entry_is = refl;
       };
       holds = dax_get_keeps s.opening c.args.value.now s.history s.stakes x.seen x.from x.to t bytes s.number claims s.made x.by (works s.stands.here s.is_ready.own) c.get_through.new.self answer e.unchanged e.state;

@@ -18,7 +18,7 @@ returns g c s =
     let claims = c.args._claims.now in
     let answer : Result (Unit {0}) EventFault = c.zero_through.result in
     let entry : Entry = dax_zero_entry claims x.by x.seen x.from x.to answer in
-    let e = c.zero_through.ensures in
+    let e = c.zero_through.ensures.answers in
     record {
       entry = entry;
       done = record {
@@ -27,12 +27,8 @@ returns g c s =
         from = refl;
         to = refl;
         claims_are = refl;
-        made = e.made;
-        state = e.state;
-        judged = e.judged;
-        refused = e.refused;
-        unchanged = e.unchanged;
+        answers = e;
         entry_is = refl;
       };
-      holds = dax_zero_keeps s.opening c.args.value.now s.history s.stakes x.seen x.from x.to s.stands.holds s.is_ready.may.bytes s.number claims s.made x.by (works s.stands.here s.is_ready.own) c.zero_through.new.self e.met answer e.unchanged e.state;
+      holds = dax_zero_keeps s.opening c.args.value.now s.history s.stakes x.seen x.from x.to s.stands.holds s.is_ready.may.bytes s.number claims s.made x.by (works s.stands.here s.is_ready.own) c.zero_through.new.self c.zero_through.ensures.met answer e.unchanged e.state;
     }

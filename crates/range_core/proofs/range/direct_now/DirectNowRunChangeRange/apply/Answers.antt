@@ -1,4 +1,5 @@
 use Rattle.std.proofs.Common.{ℕ, length, refl, ◌∙◌, arith}
+use Rattle.iob_base.specs.Parting.{pages_of}
 use Rattle.range_core.specs.DirectNowTurns.{now_entry}
 use Rattle.range_core.specs.declared.entry.Entry.{Entry}
 use Rattle.range_core.proofs.DirectNowTruth.{answered_truth, read_contents}
@@ -10,7 +11,7 @@ returns g c s =
     let was = c.args.value.now in
     let change = c.args.self.now in
     let claims = c.args._claims.now in
-    let most : ℕ = length change.pages.now.items in
+    let most : ℕ = length (pages_of change.pages.now) in
     let entry : Entry = now_entry claims change.by change.block most c.read_now.result in
     let e = c.read_now.ensures in
     let t = s.stands.holds in
@@ -24,17 +25,9 @@ returns g c s =
         block_stays = refl;
         pages_stay = refl;
         claims_are = refl;
+        answers = e;
+        contents = read_contents s.opening was s.history s.stakes change.block most (pages_of change.pages.now) (pages_of c.read_now.new.pages) c.read_now.result t e.count e.read;
         entry_is = refl;
-        made = e.made;
-        count = e.count;
-        read = e.read;
-        contents = read_contents s.opening was s.history s.stakes change.block most change.pages.now.items c.read_now.new.pages.items c.read_now.result t e.count e.read;
-        state = e.state;
-        judged = e.judged;
-        refused = e.refused;
-        unchanged = e.unchanged;
-        unfilled = e.unfilled;
-        shapes = e.shapes;
       };
       holds = answered_truth s.opening was s.history change.by change.block most s.stakes s.number claims s.made c.read_now.new.self c.read_now.result t (works s.stands.here s.is_ready.own)
           (t.same_run.mode ∙ can.cached) (omega arith) e.count e.state e.unchanged;

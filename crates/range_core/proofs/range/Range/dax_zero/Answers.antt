@@ -1,0 +1,15 @@
+use Rattle.std.proofs.Common.{rules}
+use Rattle.range_core.proofs.JudgeLemmas.{stands}
+use Rattle.range_core.proofs.range.Range.dax_zero.Goals as goal
+
+pub returns : goal.returns
+returns g c =
+    let e = c.zero_through.ensures.answers in
+    record {
+      made = e.made;
+      state = e.state;
+      judged = stands (λ same. search rules) (λ done so. search rules) e.judged;
+      passed = e.passed;
+      refused = e.refused;
+      unchanged = e.unchanged;
+    }
