@@ -2,7 +2,7 @@
 use Rattle.std.proofs.Common.{◌≡◌, ℕ, zero, suc, ◌+◌, ◌-◌, ◌*◌, ◌/◌, ◌<◌, ◌≤◌, ⊎_elim, Bool, true, false, not, ◌&&◌, ◌||◌, ◌==◌, Option, Some, None, List, [], ◌∷◌, ◌++◌, length, min, max, if◌then◌else◌, refl, sym, ◌∙◌, ap, arith}
 use Rattle.std.specs.Prelude.{nat_le, nat_lt, slice_get, unwrap_or}
 use Rattle.std.proofs.Math.Nat.{div-mul-le_self}
-use Rattle.std.proofs.lemmas.Bool.{cases_lt, eqb-false, leb-true, ltb-false, ltb-true}
+use Rattle.std.proofs.lemmas.Bool.{and_parts, cases_lt, eqb-false, leb-true, ltb-false, ltb-true}
 use Rattle.std.proofs.lemmas.Nat.{le-div}
 use Rattle.std.proofs.lemmas.Option.{slice_get_within}
 use Rattle.iob_base.specs.declared.stamp.Op.{Op}
@@ -12,15 +12,15 @@ use Rattle.iob_base.specs.declared.stamp.Tag.{Tag}
 use Rattle.fault_device.specs.declared.lane.Done.{Done}
 use Rattle.io_model.specs.Contents.{Content}
 use Rattle.io_model.specs.declared.file.Kind.{Kind}
-use Rattle.range_core.specs.BlockContents.{content_back, content_by, has_arrived}
+use Rattle.range_core.specs.BlockContents.{content_back, content_by, has_arrived, part_back}
 use Rattle.range_core.specs.ByteRuns.{IsByteRun, run_between}
 use Rattle.range_core.specs.EntryStamps.{direct_stamps, failed_stamps, landed_by, missed_by, stamps_by}
 use Rattle.range_core.specs.Kinds.{is_mapped}
-use Rattle.range_core.specs.Spots.{blocks_met, in_run, is_met}
+use Rattle.range_core.specs.Spots.{blocks_met, in_run, is_met, overlaid}
 use Rattle.range_core.specs.StampedChanges.{OnlyStampsChange, is_marked, may_change}
 use Rattle.range_core.specs.Stamps.{done_by, stamps_from}
 use Rattle.range_core.specs.declared.entry.Event.{Event}
-use Rattle.range_core.specs.declared.entry.Event.TheVariants.{Sample, Reserve, Unreserve, Attach, Preallocate, Fetch, LendRead, FillBack, Store, StoreZeros, LendWriteback, WrittenBack, DropClean, LendDirect, DirectBack, DirectNow, Wipe, DaxGet, DaxPut, DaxZero}
+use Rattle.range_core.specs.declared.entry.Event.TheVariants.{Sample, Reserve, Unreserve, Attach, Preallocate, Fetch, LendRead, FillBack, Store, StoreZeros, LendWriteback, WrittenBack, DropClean, LendDirect, LendPart, DirectBack, PartBack, DirectNow, Wipe, DaxGet, DaxPut, DaxZero}
 use Rattle.range_core.specs.declared.entry.Outcome.{Outcome}
 use Rattle.range_core.specs.declared.entry.Outcome.TheVariants.{Refused, Sampled, Counted, Took, Lending, Finished}
 use Rattle.range_core.proofs.ByteRunLemmas.{met-outside}
@@ -106,6 +106,28 @@ unmet size from to b st may some none = at (is_met size from to b) refl
         let more : from < to = omega arith in
         sym e ∙ met-outside (run_between size from to) (byte_run size from to some more) b (outside (from / size) (blocks_met size from to) b st may none)
 
+-- a block of a write that came back has not got its bytes where no such stamp is on it
+unarrived : (by : Tag) (block : ℕ) (kind : Kind) (n : ℕ) (done : Done) (b : ℕ) → is_marked b (direct_stamps by Write block kind n done) ≡ false → block ≤ b → b < block + n → has_arrived kind done (b - block) ≡ true → ⊥
+unarrived by block kind n done b none starts ends here = left done.failed refl (is_mapped kind) refl
+  where
+    i : ℕ
+    i = b - block
+
+    left : (failed : Bool) → done.failed ≡ failed → (mapped : Bool) → is_mapped kind ≡ mapped → ⊥
+    left false whole mapped m =
+        let unmarked : is_marked b (stamps_from block n (done_by by)) ≡ false = ap (λ t. is_marked b (if t then failed_stamps by Write block n (is_mapped kind) done.landed else stamps_from block n (done_by by))) (sym whole) ∙ none in
+        absent block n b (done_by by) refl unmarked starts ends
+    left true fails true m =
+        let unmarked : is_marked b (failed_stamps by Write block n true done.landed) ≡ false =
+        ap (λ t. is_marked b (failed_stamps by Write block n t done.landed)) (sym m)
+        ∙ ap (λ t. is_marked b (if t then failed_stamps by Write block n (is_mapped kind) done.landed else stamps_from block n (done_by by))) (sym fails) ∙ none in
+        let landed : nat_lt i done.landed ≡ true = sym (ap (λ t. not t || (is_mapped kind && nat_lt i done.landed)) fails ∙ ap (λ t. t && nat_lt i done.landed) m) ∙ here in
+        let few = ltb-true i done.landed landed in
+        absent block done.landed b (landed_by by) refl (marked-front b (stamps_from block done.landed (landed_by by)) (stamps_from (block + done.landed) (n - done.landed) (missed_by by)) unmarked) starts (omega (arith, starts, few))
+    left true fails false m =
+        let gone : has_arrived kind done i ≡ false = ap (λ t. not t || (is_mapped kind && nat_lt i done.landed)) fails ∙ ap (λ t. t && nat_lt i done.landed) m in
+        absurd (cc)
+
 -- pages that came back from a write
 came_back : (by : Tag) (op : Op) (block : ℕ) (kind : Kind) (pages : List (List ℕ)) (done : Done) (b : ℕ) (content : Content) → is_marked b (direct_stamps by op block kind (length pages) done) ≡ false → content_back op block kind pages done b content ≡ content
 came_back by Read block kind pages done b content none = refl
@@ -116,28 +138,10 @@ came_back by Write block kind pages done b content none = at (nat_lt b block) re
 
     page_at : (p : Option (List ℕ)) → slice_get pages i ≡ p → nat_lt b block ≡ false → has_arrived kind done i ≡ true → unwrap_or p content ≡ content
     page_at None is low here = refl
-    page_at (Some p) is low here = absurd (left done.failed refl (is_mapped kind) refl)
-      where
-        starts : block ≤ b
-        starts = ltb-false b block low
-
-        within : i < length pages
-        within = slice_get_within pages i p is
-
-        left : (failed : Bool) → done.failed ≡ failed → (mapped : Bool) → is_mapped kind ≡ mapped → ⊥
-        left false whole mapped m =
-            let n : is_marked b (stamps_from block (length pages) (done_by by)) ≡ false = ap (λ t. is_marked b (if t then failed_stamps by Write block (length pages) (is_mapped kind) done.landed else stamps_from block (length pages) (done_by by))) (sym whole) ∙ none in
-            absent block (length pages) b (done_by by) refl n starts (omega (arith, starts, within))
-        left true fails true m =
-            let n : is_marked b (failed_stamps by Write block (length pages) true done.landed) ≡ false =
-            ap (λ t. is_marked b (failed_stamps by Write block (length pages) t done.landed)) (sym m)
-            ∙ ap (λ t. is_marked b (if t then failed_stamps by Write block (length pages) (is_mapped kind) done.landed else stamps_from block (length pages) (done_by by))) (sym fails) ∙ none in
-            let landed : nat_lt i done.landed ≡ true = sym (ap (λ t. not t || (is_mapped kind && nat_lt i done.landed)) fails ∙ ap (λ t. t && nat_lt i done.landed) m) ∙ here in
-            let few = ltb-true i done.landed landed in
-            absent block done.landed b (landed_by by) refl (marked-front b (stamps_from block done.landed (landed_by by)) (stamps_from (block + done.landed) (length pages - done.landed) (missed_by by)) n) starts (omega (arith, starts, few))
-        left true fails false m =
-            let gone : has_arrived kind done i ≡ false = ap (λ t. not t || (is_mapped kind && nat_lt i done.landed)) fails ∙ ap (λ t. t && nat_lt i done.landed) m in
-            absurd (cc)
+    page_at (Some p) is low here =
+        let starts : block ≤ b = ltb-false b block low in
+        let within : i < length pages = slice_get_within pages i p is in
+        absurd (unarrived by block kind (length pages) done b none starts (omega (arith, starts, within)) here)
 
     arrived : nat_lt b block ≡ false → (t : Bool) → has_arrived kind done i ≡ t → (if t then unwrap_or (slice_get pages i) content else content) ≡ content
     arrived low false is = refl
@@ -146,6 +150,20 @@ came_back by Write block kind pages done b content none = at (nat_lt b block) re
     at : (t : Bool) → nat_lt b block ≡ t → (if nat_lt b block then content else (if has_arrived kind done i then unwrap_or (slice_get pages i) content else content)) ≡ content
     at true low = ap (λ t. if t then content else (if has_arrived kind done i then unwrap_or (slice_get pages i) content else content)) low
     at false low = ap (λ t. if t then content else (if has_arrived kind done i then unwrap_or (slice_get pages i) content else content)) low ∙ arrived low (has_arrived kind done i) refl
+
+-- a part of a block that came back from a write
+part_came : (size : ℕ) (by : Tag) (block : ℕ) (kind : Kind) (from to : ℕ) (bytes : List ℕ) (done : Done) (b : ℕ) (content : Content) → is_marked b (direct_stamps by Write block kind 1 done) ≡ false → part_back size block kind from to bytes done b content ≡ content
+part_came size by block kind from to bytes done b content none = at (in_run block 1 b) refl (has_arrived kind done 0) refl
+  where
+    at : (t : Bool) → in_run block 1 b ≡ t → (u : Bool) → has_arrived kind done 0 ≡ u → (if t then (if u then overlaid size from to bytes b content else content) else content) ≡ content
+    at false met u is = refl
+    at true met false is = refl
+    at true met true is =
+        let p = and_parts (nat_le block b) (nat_lt b (block + 1)) met in
+        let starts : block ≤ b = leb-true block b p.0 in
+        let ends : b < block + 1 = ltb-true b (block + 1) p.1 in
+        let none_before : b - block ≡ 0 = omega arith in
+        absurd (unarrived by block kind 1 done b none starts ends (ap (has_arrived kind done) none_before ∙ is))
 
 kept : (size b : ℕ) (content : Content) (event : Event) (outcome : Outcome) → 0 < size → is_marked b (stamps_by size event outcome) ≡ false → content_by size b event outcome content ≡ content
 kept size b content (Sample a0 a1) o some none = refl
@@ -172,12 +190,19 @@ kept size b content (LendWriteback a0 a1) o some none = refl
 kept size b content (WrittenBack a0 a1 a2 a3 a4) o some none = refl
 kept size b content (DropClean a0 a1) o some none = refl
 kept size b content (LendDirect a0 a1 a2 a3 a4) o some none = refl
+kept size b content (LendPart a0 a1 a2 a3 a4) o some none = refl
 kept size b content (DirectBack by op ticket block kind pages done) (Refused f) some none = refl
 kept size b content (DirectBack by op ticket block kind pages done) (Sampled g) some none = refl
 kept size b content (DirectBack by op ticket block kind pages done) (Counted m) some none = refl
 kept size b content (DirectBack by op ticket block kind pages done) (Took t) some none = refl
 kept size b content (DirectBack by op ticket block kind pages done) (Lending t m) some none = refl
 kept size b content (DirectBack by op ticket block kind pages done) Finished some none = came_back by op block kind pages done b content none
+kept size b content (PartBack by ticket block kind from to bytes done) (Refused f) some none = refl
+kept size b content (PartBack by ticket block kind from to bytes done) (Sampled g) some none = refl
+kept size b content (PartBack by ticket block kind from to bytes done) (Counted m) some none = refl
+kept size b content (PartBack by ticket block kind from to bytes done) (Took t) some none = refl
+kept size b content (PartBack by ticket block kind from to bytes done) (Lending t m) some none = refl
+kept size b content (PartBack by ticket block kind from to bytes done) Finished some none = part_came size by block kind from to bytes done b content none
 kept size b content (DirectNow a0 a1 a2) o some none = refl
 kept size b content (Wipe by block n) (Refused f) some none = refl
 kept size b content (Wipe by block n) (Sampled g) some none = refl

@@ -15,7 +15,7 @@ use Rattle.range_core.specs.declared.cell.Cell.{Cell}
 use Rattle.range_core.specs.declared.lending.Away.{Away}
 use Rattle.range_core.specs.declared.lending.Held.{Held}
 use Rattle.range_core.specs.declared.lending.Lender.{Lender}
-use Rattle.range_core.specs.declared.lending.Lender.TheVariants.{Reading, Writeback, Direct}
+use Rattle.range_core.specs.declared.lending.Lender.TheVariants.{Reading, Writeback, Direct, Part as InPart}
 
 -- a sum that is not zero has an item that weighs something
 record Weighs {A : Type 0} (w : A → ℕ) (xs : List A) : Type 0 where
@@ -54,6 +54,7 @@ pub lent_for_writeback : (b : ℕ) (ticket : ℕ) (lender : Lender) → pageless
 lent_for_writeback b ticket Reading e = absurd (cc)
 lent_for_writeback b ticket Writeback e = refl
 lent_for_writeback b ticket (Direct by op) e = absurd (cc)
+lent_for_writeback b ticket (InPart by from to) e = absurd (cc)
 
 -- so it has a page, and without a page it is at home
 pub home_without_page : (size b : ℕ) (c : Cell) (content : Content) (stakes : List RangeStake) → IsTrueAt size b c content stakes → pageless_at b c.away ≡ None → c.page ≡ None → c.away ≡ None

@@ -3,12 +3,12 @@ use Rattle.std.proofs.Common.{◌≡◌, ℕ, Bool, true, false, ◌&&◌, not, 
 use Rattle.iob_base.specs.declared.stamp.Op.TheVariants.{Read, Write}
 use Rattle.io_model.specs.declared.file.Kind.{Kind}
 use Rattle.io_model.specs.declared.file.Kind.TheVariants.{Delalloc}
-use Rattle.range_core.specs.BlockStates.{BlockState, at_home_again, becomes_hole, directly_back, is_zero_already, lent_clean, lent_for, put_through, state_by, taken_by, with_space, written_back, becomes_dirty, lent_directly, read_back, becomes_uptodate, without_page}
+use Rattle.range_core.specs.BlockStates.{BlockState, at_home_again, becomes_hole, directly_back, is_zero_already, lent_clean, lent_for, put_through, state_by, taken_by, with_space, written_back, becomes_dirty, lent_directly, lent_in_part, read_back, becomes_uptodate, without_page}
 use Rattle.range_core.specs.Conversions.{OnlyWritesMap, writes_out}
 use Rattle.range_core.specs.Kinds.{is_delalloc, is_mapped}
 use Rattle.range_core.specs.Spots.{in_run, is_met}
 use Rattle.range_core.specs.declared.entry.Event.{Event}
-use Rattle.range_core.specs.declared.entry.Event.TheVariants.{Sample, Reserve, Unreserve, Attach, Preallocate, Fetch, LendRead, FillBack, Store, StoreZeros, LendWriteback, WrittenBack, DropClean, LendDirect, DirectBack, DirectNow, Wipe, DaxGet, DaxPut, DaxZero}
+use Rattle.range_core.specs.declared.entry.Event.TheVariants.{Sample, Reserve, Unreserve, Attach, Preallocate, Fetch, LendRead, FillBack, Store, StoreZeros, LendWriteback, WrittenBack, DropClean, LendDirect, LendPart, DirectBack, PartBack, DirectNow, Wipe, DaxGet, DaxPut, DaxZero}
 use Rattle.range_core.specs.declared.entry.Outcome.{Outcome}
 use Rattle.range_core.specs.declared.entry.Outcome.TheVariants.{Refused, Sampled, Counted, Took, Lending, Finished}
 use Rattle.range_core.specs.declared.lending.Lender.TheVariants.{Reading}
@@ -125,6 +125,12 @@ maps size b s (LendDirect by seen op block n) (Counted m) was now = never _ _ wa
 maps size b s (LendDirect by seen op block n) (Took t) was now = never _ _ was now
 maps size b s (LendDirect by seen op block n) (Lending t m) was now = never _ _ (unmapped_if (in_run block n b) (lent_directly by op t s) s was was) now
 maps size b s (LendDirect by seen op block n) Finished was now = never _ _ was now
+maps size b s (LendPart by seen block from to) (Refused f) was now = never _ _ was now
+maps size b s (LendPart by seen block from to) (Sampled g) was now = never _ _ was now
+maps size b s (LendPart by seen block from to) (Counted m) was now = never _ _ was now
+maps size b s (LendPart by seen block from to) (Took t) was now = never _ _ was now
+maps size b s (LendPart by seen block from to) (Lending t m) was now = never _ _ (unmapped_if (in_run block 1 b) (lent_in_part by from to t s) s was was) now
+maps size b s (LendPart by seen block from to) Finished was now = never _ _ was now
 maps size b s (DirectBack by Read ticket block kind pages done) (Refused f) was now = never _ _ was now
 maps size b s (DirectBack by Read ticket block kind pages done) (Sampled g) was now = never _ _ was now
 maps size b s (DirectBack by Read ticket block kind pages done) (Counted m) was now = never _ _ was now
@@ -137,6 +143,12 @@ maps size b s (DirectBack by Write ticket block kind pages done) (Counted m) was
 maps size b s (DirectBack by Write ticket block kind pages done) (Took t) was now = never _ _ was now
 maps size b s (DirectBack by Write ticket block kind pages done) (Lending t m) was now = never _ _ was now
 maps size b s (DirectBack by Write ticket block kind pages done) Finished was now = directly (in_run block (length pages) b) done.failed s was now
+maps size b s (PartBack by ticket block kind from to bytes done) (Refused f) was now = never _ _ was now
+maps size b s (PartBack by ticket block kind from to bytes done) (Sampled g) was now = never _ _ was now
+maps size b s (PartBack by ticket block kind from to bytes done) (Counted m) was now = never _ _ was now
+maps size b s (PartBack by ticket block kind from to bytes done) (Took t) was now = never _ _ was now
+maps size b s (PartBack by ticket block kind from to bytes done) (Lending t m) was now = never _ _ was now
+maps size b s (PartBack by ticket block kind from to bytes done) Finished was now = directly (in_run block 1 b) done.failed s was now
 maps size b s (DirectNow by block most) (Refused f) was now = never _ _ was now
 maps size b s (DirectNow by block most) (Sampled g) was now = never _ _ was now
 maps size b s (DirectNow by block most) (Counted m) was now = never _ _ (unmapped_if (in_run block m b && is_mapped s.kind) (without_page s) s was was) now

@@ -15,10 +15,10 @@ use Rattle.io_model.specs.declared.file.Kind.{Kind}
 use Rattle.io_model.specs.declared.file.Kind.TheVariants.{Hole, Delalloc, Unwritten, Mapped}
 use Rattle.range_core.specs.BlockContents.{content_back, has_arrived}
 use Rattle.range_core.specs.BlockStates.{directly_back, state_of}
-use Rattle.range_core.specs.BlockTruth.{FitsLender, IsLentContent, IsTrueAt, IsWholePage}
+use Rattle.range_core.specs.BlockTruth.{FitsLender, IsAround, IsLentContent, IsTrueAt, IsWholePage}
 use Rattle.range_core.specs.Cells.{HasPlace, IsPlaced}
 use Rattle.range_core.specs.ClaimsView.{ClaimsView}
-use Rattle.range_core.specs.DirectBacks.{came_back}
+use Rattle.range_core.specs.DirectBacks.{IsLentTo, came_back}
 use Rattle.range_core.specs.EntryCounts.{is_write_back, one_where}
 use Rattle.range_core.specs.Kinds.{has_space, is_delalloc, is_mapped, is_unwritten, written_kind}
 use Rattle.range_core.specs.Loans.{ChangesSeat}
@@ -31,43 +31,54 @@ use Rattle.range_core.specs.declared.cell.Cell.{Cell}
 use Rattle.range_core.specs.declared.lending.Away.{Away}
 use Rattle.range_core.specs.declared.lending.Held.{Held}
 use Rattle.range_core.specs.declared.lending.Lender.{Lender}
-use Rattle.range_core.specs.declared.lending.Lender.TheVariants.{Direct}
+use Rattle.range_core.specs.declared.lending.Lender.TheVariants.{Reading, Writeback, Direct, Part as InPart}
 use Rattle.range_core.proofs.DirectBackLemmas.{back-is, back_cell, kind_back}
 use Rattle.range_core.proofs.LoanLemmas.{return_frees_claim}
 use Rattle.range_core.proofs.ReturnLemmas.{IsClaimed}
 use Rattle.range_core.proofs.TransferLemmas.{after-at, moved, part_after}
 
 -- a block that is out on a claim for a caller's own page: what its part has, and that it has no page in the cache
-pub record IsDirectlyOut (size k : ℕ) (c : Cell) (content : Content) (op : Op) (by : Tag) (h : Held) : Type 0 where
+pub record IsDirectlyOut (size b k : ℕ) (c : Cell) (content : Content) (lender : Lender) (h : Held) : Type 0 where
   pub part : Part
   pub part_is : slice_get h.lent.value.parts k ≡ Some part
   pub whole : IsWholePage size part.page
   pub lent : IsLentContent size (is_mapped c.kind) content part
   pub pageless : c.page ≡ None
+  pub around : IsAround size b content h.lent.value part.page lender
   pub space : has_space c.kind ≡ true
   pub kind : kind_after h.kind k ≡ c.kind
   pub ticket : ℕ
-  pub away : c.away ≡ Some (record { ticket = ticket; lender = Direct by op })
+  pub away : c.away ≡ Some (record { ticket = ticket; lender = lender })
   pub ticket_is : ticket ≡ h.lent.value.ticket
 
-pub directly_out : (size b k : ℕ) (c : Cell) (content : Content) (op : Op) (by : Tag) (h : Held) → b ≡ h.lent.value.block + k → h.lender ≡ Direct by op → HasPlace size c.kind c.sector c.away → IsClaimed size b c content h → IsDirectlyOut size k c content op by h
-directly_out size b k c content op by h at lender place claimed =
+-- such a block has its content in the part, or reads as zeros, and no page
+lent_as : (size : ℕ) (c : Cell) (content : Content) (part : Part) (by : Tag) (op : Op) (lender : Lender) → IsLentTo by op lender → FitsLender size c content part lender → IsLentContent size (is_mapped c.kind) content part × (c.page ≡ None)
+lent_as size c content part by op Reading to fits = absurd to
+lent_as size c content part by op Writeback to fits = absurd to
+lent_as size c content part by op (Direct tag way) to fits = fits
+lent_as size c content part by op (InPart tag from last) to fits = fits
+
+pub directly_out : (size b k : ℕ) (c : Cell) (content : Content) (by : Tag) (op : Op) (lender : Lender) (h : Held) → IsLentTo by op lender → b ≡ h.lent.value.block + k → h.lender ≡ lender → HasPlace size c.kind c.sector c.away → IsClaimed size b c content h
+    → IsDirectlyOut size b k c content lender h
+directly_out size b k c content by op lender h to at for place claimed =
     let fits = claimed.fits in
     let off : b - h.lent.value.block ≡ k = omega arith in
     let P : Option Away → Type 0 = λ a. HasPlace size c.kind c.sector a in
     let L : Lender → Type 0 = λ l. FitsLender size c content fits.part l in
-    let direct : claimed.away.lender ≡ Direct by op = sym fits.lender ∙ lender in
-    let here : L (Direct by op) = subst L direct fits.fits in
+    let A : Lender → Type 0 = λ l. IsAround size b content h.lent.value fits.part.page l in
+    let same : claimed.away.lender ≡ lender = sym fits.lender ∙ for in
+    let here = lent_as size c content fits.part by op lender to (subst L same fits.fits) in
     record {
       part = fits.part;
       part_is = ap (slice_get h.lent.value.parts) (sym off) ∙ fits.part_is;
       whole = fits.page;
       lent = here.0;
       pageless = here.1;
+      around = subst A same fits.around;
       space = (subst P claimed.is place).1;
       kind = ap (λ j. kind_after h.kind j) (sym off) ∙ fits.kind;
       ticket = claimed.away.ticket;
-      away = claimed.is ∙ ap (λ (l : Lender). Some (record { ticket = claimed.away.ticket; lender = l })) direct;
+      away = claimed.is ∙ ap (λ (l : Lender). Some (record { ticket = claimed.away.ticket; lender = l })) same;
       ticket_is = sym fits.ticket;
     }
 
@@ -177,11 +188,11 @@ pageless_clean size b c content stakes t none = at c.dirty refl
     at true e = absurd (let P : Option Page → Type 0 = λ o. IsSomeAnd o (λ p. c.kind ≢ Hole) in subst P none (t.dirty_is_uptodate e))
 
 -- a block that comes back is true of what its transfer left
-pub back_true : (size b k : ℕ) (was : Cell) (content after : Content) (op : Op) (by : Tag) (done : Done) (h : Held) (stakes others : List RangeStake) (claims left : ClaimsView) → ChangesSeat stakes others claims left
-    → claims.held ≡ Some h → left.held ≡ None → names_block b (Some h) ≡ true → (out : IsDirectlyOut size k was content op by h) → AgreesBack size op done k was.kind out.part content after
+pub back_true : (size b k : ℕ) (was : Cell) (content after : Content) (op : Op) (lender : Lender) (done : Done) (h : Held) (stakes others : List RangeStake) (claims left : ClaimsView) → ChangesSeat stakes others claims left
+    → claims.held ≡ Some h → left.held ≡ None → names_block b (Some h) ≡ true → (out : IsDirectlyOut size b k was content lender h) → AgreesBack size op done k was.kind out.part content after
     → IsPlaced size (came_back op done.failed (parts_after op done.landed h.lent.value.parts) k was) → IsTrueAt size b was content stakes
     → IsTrueAt size b (came_back op done.failed (parts_after op done.landed h.lent.value.parts) k was) after others
-back_true size b k was content after op by done h stakes others claims left g some_h none named out agrees placed t =
+back_true size b k was content after op lender done h stakes others claims left g some_h none named out agrees placed t =
     let q : Part = part_after op done.landed k out.part in
     let c : Cell = back_cell op done.failed q was in
     let is : came_back op done.failed (parts_after op done.landed h.lent.value.parts) k was ≡ c = back-is op done.failed _ k q was (after-at op done.landed k h.lent.value.parts out.part out.part_is) in
@@ -213,13 +224,22 @@ pub lost_by : Op → Bool → ℕ
 lost_by Read unwritten = 0
 lost_by Write unwritten = one_where unwritten
 
+-- whether it is lent for writing is told by the direction
+for_writing : (by : Tag) (op : Op) (ticket : ℕ) (lender : Lender) → IsLentTo by op lender → is_lent_for_writing (Some (record { ticket = ticket; lender = lender })) ≡ is_lent_for_writing (Some (record { ticket = ticket; lender = Direct by op }))
+for_writing by op ticket Reading to = absurd to
+for_writing by op ticket Writeback to = absurd to
+for_writing by op ticket (Direct tag way) to =
+    ap (λ (t : Tag). is_lent_for_writing (Some (record { ticket = ticket; lender = Direct t way }))) to.0 ∙ ap (λ (o : Op). is_lent_for_writing (Some (record { ticket = ticket; lender = Direct by o }))) to.1
+for_writing by op ticket (InPart tag from last) to = ap (λ (o : Op). is_lent_for_writing (Some (record { ticket = ticket; lender = Direct by o }))) (sym to.1)
+
 -- each block that comes back uses none any more
-pub back_pending : (op : Op) (by : Tag) (failed : Bool) (parts : List Part) (k ticket : ℕ) (p : Part) (c : Cell) → slice_get parts k ≡ Some p → c.away ≡ Some (record { ticket = ticket; lender = Direct by op }) → has_space c.kind ≡ true
+pub back_pending : (op : Op) (by : Tag) (lender : Lender) (failed : Bool) (parts : List Part) (k ticket : ℕ) (p : Part) (c : Cell) → IsLentTo by op lender → slice_get parts k ≡ Some p → c.away ≡ Some (record { ticket = ticket; lender = lender }) → has_space c.kind ≡ true
     → pending (came_back op failed parts k c) + lost_by op (is_unwritten c.kind) ≡ pending c + 0
 unfolding lost_by
-back_pending op by failed parts k ticket p c e away space =
+back_pending op by lender failed parts k ticket p c to e away space =
     let is = ap pending (back-is op failed parts k p c e) in
-    let was = ap (λ a. one_where (is_delalloc c.kind || (is_unwritten c.kind && is_lent_for_writing a))) away in
+    let Pends : Bool → ℕ = λ u. one_where (is_delalloc c.kind || (is_unwritten c.kind && u)) in
+    let was = ap (λ a. one_where (is_delalloc c.kind || (is_unwritten c.kind && is_lent_for_writing a))) away ∙ ap Pends (for_writing by op ticket lender to) in
     let step = at op failed c.kind space in
     omega arith
   where

@@ -17,14 +17,13 @@ use Rattle.io_model.specs.declared.file.Kind.{Kind}
 use Rattle.io_model.specs.declared.file.Kind.TheVariants.{Hole}
 use Rattle.turn_cell.specs.Laws.{Advanced}
 use Rattle.turn_cell.specs.Stakes.{total}
-use Rattle.range_core.specs.BlockContents.{content_back}
-use Rattle.range_core.specs.BlockStates.{directly_back, state_of}
+use Rattle.range_core.specs.BlockContents.{content_after}
+use Rattle.range_core.specs.BlockStates.{state_of}
 use Rattle.range_core.specs.BlockTruth.{IsLentContent, IsTrueAt}
 use Rattle.range_core.specs.Cells.{IsPlaced}
 use Rattle.range_core.specs.ClaimsView.{ClaimsView, released}
-use Rattle.range_core.specs.DirectBacks.{IsNotUptodate, KeepsPages, ReadsContents, ReadyToReturn, ReturnedDirectly, after_direct_back, back_in, came_back, kind_held, marked_back, pages_held}
+use Rattle.range_core.specs.DirectBacks.{ComesDirectly, IsNotUptodate, IsLentTo, KeepsPages, ReadsContents, ReadyToReturn, ReturnedDirectly, after_direct_back, back_entry, back_event, back_in, came_back, kind_held, lender_held, marked_back, pages_held}
 use Rattle.range_core.specs.EntryCounts.{is_write_back, one_where}
-use Rattle.range_core.specs.EntryStamps.{direct_stamps}
 use Rattle.range_core.specs.Kinds.{is_mapped, is_unwritten}
 use Rattle.range_core.specs.Lends.{home_cell}
 use Rattle.range_core.specs.Loans.{ChangesSeat}
@@ -36,10 +35,9 @@ use Rattle.range_core.specs.Spots.{in_run}
 use Rattle.range_core.specs.Stakes.{RangeStake, names_block}
 use Rattle.range_core.specs.declared.cell.Cell.{Cell}
 use Rattle.range_core.specs.declared.entry.Entry.{Entry}
-use Rattle.range_core.specs.declared.entry.Event.TheVariants.{DirectBack}
 use Rattle.range_core.specs.declared.entry.Outcome.TheVariants.{Finished}
 use Rattle.range_core.specs.declared.lending.Held.{Held}
-use Rattle.range_core.specs.declared.lending.Lender.TheVariants.{Direct}
+use Rattle.range_core.specs.declared.lending.Lender.{Lender}
 use Rattle.range_core.specs.declared.lending.Lent.{Lent}
 use Rattle.range_core.specs.declared.range.lend_direct.DirectBackRun.{DirectBackRun}
 use Rattle.range_core.proofs.AfterEntry.{quiet_tickets}
@@ -54,26 +52,30 @@ use Rattle.range_core.proofs.ReturnLemmas.{are_out, claim_at, comes_back}
 use Rattle.range_core.proofs.SampleLemmas.{samples_next}
 use Rattle.range_core.proofs.SoundLemmas.{total-moved}
 use Rattle.range_core.proofs.TransferLemmas.{after-at, length-after, moved, part_after}
-use Rattle.range_core.proofs.DirectBackBlocks.{AgreesBack, IsDirectlyOut, agrees_back, back_pending, back_state, back_true, content_inside, content_outside, directly_out, kind-stays, lost_by, map-on_each-at, out_of_run, pageless_clean, rise-within}
-use Rattle.range_core.specs.Happened.{is_out}
-use Rattle.range_core.proofs.FoundLemmas.{found_on, kind-found, out-found}
-use Rattle.range_core.proofs.LawfulLemmas.{both}
-use Rattle.io_model.specs.Kinds.{is_kind, kind_after}
+use Rattle.range_core.proofs.DirectBackBlocks.{AgreesBack, IsDirectlyOut, agrees_back, back_pending, back_state, back_true, directly_out, kind-stays, lost_by, map-on_each-at, pageless_clean, rise-within}
+use Rattle.range_core.proofs.DirectBackEntries.{IsAlone, TellsBack, alone_of, tells_back}
+use Rattle.range_core.specs.Happened.{IsAsFound, fits_by}
+use Rattle.range_core.proofs.FoundLemmas.{found_run, out-found}
 use Rattle.range_core.proofs.StakeTruth.{Works}
 
-module _ (opening now : RangeView) (history : List Entry) (stakes : List RangeStake) (number : ℕ) (claims : ClaimsView) (made : List Entry) (by : Tag) (op : Op) (back : Lent) (done : Done)
-    (t : RangeTruth opening now history stakes) (here : Works stakes number claims made) (may : MayComeBack opening claims (Direct by op) op back done) where
+-- what an entry says of the blocks that it met, and of the others
+met_fits : (fits met : Bool) → (met ≡ false → fits ≡ true) → (if met then fits else true) ≡ true → fits ≡ true
+met_fits fits true out e = e
+met_fits fits false out e = out refl
+
+module _ (opening now : RangeView) (history : List Entry) (stakes : List RangeStake) (number : ℕ) (claims : ClaimsView) (made : List Entry) (by : Tag) (op : Op) (lender : Lender) (back : Lent) (done : Done)
+    (t : RangeTruth opening now history stakes) (here : Works stakes number claims made) (may : MayComeBack opening claims lender op back done) (to : IsLentTo by op lender) where
   abbrev h : Held
   h = may.claim
 
   abbrev n : ℕ
   n = length back.parts
 
-  abbrev comes : ComesBack now claims (Direct by op) op back done
+  abbrev comes : ComesBack now claims lender op back done
   comes = record { claim = h; lent_for = may.lent_for; is_return = may.is_return; out = are_out opening now history stakes number claims made h t here may.is_return.held may.lies }
 
   run : IsBackRun now back done
-  run = back_run now claims (Direct by op) op back done comes
+  run = back_run now claims lender op back done comes
 
   many : n ≡ length h.lent.value.parts
   many = ap length may.is_return.parts ∙ length-after op done.landed h.lent.value.parts
@@ -85,13 +87,13 @@ module _ (opening now : RangeView) (history : List Entry) (stakes : List RangeSt
   names_it b = ap (λ m. in_run m (length h.lent.value.parts) b) (sym block_is) ∙ ap (λ m. in_run back.block m b) (sym many)
 
   -- each block of the claim is out on it
-  pub out_at : (k : ℕ) (was : Cell) (content : Content) → k < n → IsTrueAt opening.geometry.block_size (back.block + k) was content stakes → IsDirectlyOut opening.geometry.block_size k was content op by h
+  pub out_at : (k : ℕ) (was : Cell) (content : Content) → k < n → IsTrueAt opening.geometry.block_size (back.block + k) was content stakes → IsDirectlyOut opening.geometry.block_size (back.block + k) k was content lender h
   out_at k was content l true_at =
       let size : ℕ = opening.geometry.block_size in
       let b : ℕ = back.block + k in
       let named : names_block b (Some h) ≡ true = names_it b ∙ in_run-true back.block n b (omega arith) (omega arith) in
       let place : b ≡ h.lent.value.block + k = ap (λ m. m + k) block_is in
-      directly_out size b k was content op by h place may.lent_for true_at.place (claim_at size b was content stakes number claims made h true_at here may.is_return.held named)
+      directly_out size b k was content by op lender h to place may.lent_for true_at.place (claim_at size b was content stakes number claims made h true_at here may.is_return.held named)
 
   -- there are cookies for what may come back
   pub cookie_left : now.cookie ≤ WORN + 65536
@@ -102,49 +104,11 @@ module _ (opening now : RangeView) (history : List Entry) (stakes : List RangeSt
   abbrev kind : Kind
   kind = kind_held claims.held
 
-  abbrev entry : Entry
-  entry = record { caller = claims.caller; event = DirectBack by op back.ticket back.block kind (map (λ p. p.bytes) (pages_held claims.held)) done; outcome = Finished }
-
   kind_is : kind ≡ h.kind
   kind_is = ap kind_held may.is_return.held
 
-  pages_are : pages_held claims.held ≡ map (λ p. p.page) h.lent.value.parts
-  pages_are = ap pages_held may.is_return.held
-
-  length-page_bytes : (parts : List Part) → length (map (λ (p : Page). p.bytes) (map (λ (p : Part). p.page) parts)) ≡ length parts
-  length-page_bytes [] = refl
-  length-page_bytes (p ∷ parts) = ap suc (length-page_bytes parts)
-
-  bytes-at : (k : ℕ) (parts : List Part) (p : Part) → slice_get parts k ≡ Some p → slice_get (map (λ (p : Page). p.bytes) (map (λ (p : Part). p.page) parts)) k ≡ Some p.page.bytes
-  bytes-at k [] p e = absurd (cc)
-  bytes-at zero (q ∷ parts) p e = let is : q ≡ p = cc in ap (λ (x : Part). Some x.page.bytes) is
-  bytes-at (suc k) (q ∷ parts) p e = bytes-at k parts p e
-
-  bytes_many : length (map (λ (p : Page). p.bytes) (pages_held claims.held)) ≡ n
-  bytes_many = ap (λ l. length (map (λ (p : Page). p.bytes) l)) pages_are ∙ length-page_bytes h.lent.value.parts ∙ sym many
-
-  -- what the k-th block has after the return agrees with its part
-  agrees_at : (k : ℕ) (was : Cell) (content : Content) (l : k < n) (true_at : IsTrueAt opening.geometry.block_size (back.block + k) was content stakes)
-      → AgreesBack opening.geometry.block_size op done k was.kind (out_at k was content l true_at).part content (content_back op back.block kind (map (λ p. p.bytes) (pages_held claims.held)) done (back.block + k) content)
-  agrees_at k was content l true_at =
-      let size : ℕ = opening.geometry.block_size in
-      let out = out_at k was content l true_at in
-      let there : slice_get (map (λ (p : Page). p.bytes) (pages_held claims.held)) k ≡ Some out.part.page.bytes =
-      ap (λ ps. slice_get (map (λ (p : Page). p.bytes) ps) k) pages_are ∙ bytes-at k h.lent.value.parts out.part out.part_is in
-      let A : Content → Type 0 = λ x. AgreesBack size op done k was.kind out.part content x in
-      let mapped : is_mapped kind ≡ is_mapped was.kind = ap is_mapped kind_is ∙ sym (mapped-after h.kind k) ∙ ap is_mapped out.kind in
-      let failed : done.failed ≡ nat_lt done.landed n = may.is_return.failed ∙ ap (λ m. nat_lt done.landed m) (sym many) in
-      subst A (sym (content_inside op back.block k kind _ done out.part.page.bytes content there))
-      (agrees_back size op done n k kind was.kind out.part content mapped out.space true_at.whole out.whole out.lent failed l)
-
   abbrev next : RangeView
   next = after_direct_back now by op kind back done
-
-  abbrev others : List RangeStake
-  others = set stakes number (Some (released claims), made ++ entry ∷ [])
-
-  seat_changes : ChangesSeat stakes others claims (released claims)
-  seat_changes = record { number = number; made = made; now = made ++ entry ∷ []; here = here.here; is = refl }
 
   low_is : back.block - opening.first ≡ back.block - now.first
   low_is = let f = t.same_run.first in omega arith
@@ -156,39 +120,8 @@ module _ (opening now : RangeView) (history : List Entry) (stakes : List RangeSt
   placed_at : (k : ℕ) (was : Cell) → k < n → slice_get now.cells (back.block - now.first + k) ≡ Some was → IsPlaced opening.geometry.block_size was → IsPlaced opening.geometry.block_size (came_back op done.failed (parts_after op done.landed h.lent.value.parts) k was)
   placed_at k was l at placed =
       let S : ℕ → Type 0 = λ size. IsOutOn size h k was in
-      let out : IsOutOn opening.geometry.block_size h k was = subst S (ap (λ g. g.block_size) t.same_run.geometry) (back_out now claims (Direct by op) op back done comes k was l at) in
+      let out : IsOutOn opening.geometry.block_size h k was = subst S (ap (λ g. g.block_size) t.same_run.geometry) (back_out now claims lender op back done comes k was l at) in
       back_placed opening.geometry.block_size op done.failed done.landed k h was out placed
-
-  back_changes : ChangesRun opening now next history entry stakes number claims (released claims) made (came_back op done.failed back.parts) back.block n
-  back_changes =
-      let size : ℕ = opening.geometry.block_size in
-      let begins = run.low in
-      let first = t.same_run.first in
-      record {
-        low = omega arith;
-        cells = ap (λ l. on_each (came_back op done.failed back.parts) 0 l n now.cells) (sym low_is);
-        outside = λ b outside. record {
-          content = λ x. content_outside op back.block kind (map (λ p. p.bytes) (pages_held claims.held)) done b x (out_of_run back.block n b _ bytes_many outside);
-          state = λ s. ap (λ m. if in_run back.block m b then directly_back op done.failed s else s) bytes_many ∙ ap (λ u. if u then directly_back op done.failed s else s) outside;
-          claims = λ c x. unnamed_true size b c x stakes others claims (released claims) seat_changes (ap (names_block b) may.is_return.held ∙ names_it b ∙ outside) refl;
-        };
-        inside = λ k was content l at true_at.
-            let out = out_at k was content l true_at in
-            let b : ℕ = back.block + k in
-            let inside : in_run back.block (length (map (λ (p : Page). p.bytes) (pages_held claims.held))) b ≡ true =
-            ap (λ m. in_run back.block m b) bytes_many ∙ in_run-true back.block n b (omega arith) (omega arith) in
-            let named : names_block b (Some h) ≡ true = names_it b ∙ in_run-true back.block n b (omega arith) (omega arith) in
-            let T : List Part → Type 0 = λ ps. IsTrueAt size b (came_back op done.failed ps k was) (content_back op back.block kind (map (λ p. p.bytes) (pages_held claims.held)) done b content) others in
-            let parts : back.parts ≡ parts_after op done.landed h.lent.value.parts = may.is_return.parts in
-            record {
-              state =
-                  back_state op done.failed back.parts k (part_after op done.landed k out.part) was (ap (λ ps. slice_get ps k) parts ∙ after-at op done.landed k h.lent.value.parts out.part out.part_is)
-                  ∙ sym (ap (λ u. if u then directly_back op done.failed (state_of was) else state_of was) inside);
-              holds = subst T (sym parts)
-                  (back_true size b k was content _ op by done h stakes others claims (released claims) seat_changes may.is_return.held refl named out (agrees_at k was content l true_at)
-                  (placed_at k was l (at_now k was at) true_at.place) true_at);
-            };
-      }
 
   -- the truth of the k-th block before the return
   true_now : (k : ℕ) (was : Cell) → slice_get now.cells (back.block - now.first + k) ≡ Some was → IsTrueAt opening.geometry.block_size (back.block + k) was (content_at opening history (back.block - opening.first + k)) stakes
@@ -201,14 +134,15 @@ module _ (opening now : RangeView) (history : List Entry) (stakes : List RangeSt
       let T : ℕ → Type 0 = λ m. IsTrueAt opening.geometry.block_size m was (content_at opening history i) stakes in
       subst T b (t.blocks i was (ap (slice_get now.cells) (sym place) ∙ at))
 
-  pub out_now : (k : ℕ) (was : Cell) → k < n → slice_get now.cells (back.block - now.first + k) ≡ Some was → IsDirectlyOut opening.geometry.block_size k was (content_at opening history (back.block - opening.first + k)) op by h
+  pub out_now : (k : ℕ) (was : Cell) → k < n → slice_get now.cells (back.block - now.first + k) ≡ Some was
+      → IsDirectlyOut opening.geometry.block_size (back.block + k) k was (content_at opening history (back.block - opening.first + k)) lender h
   out_now k was l at = out_at k was _ l (true_now k was at)
-
-  unwritten_at : (k : ℕ) (was : Cell) → k < n → slice_get now.cells (back.block - now.first + k) ≡ Some was → is_unwritten was.kind ≡ is_unwritten kind
-  unwritten_at k was l at = ap is_unwritten (sym (out_now k was l at).kind) ∙ unwritten-after h.kind k ∙ ap is_unwritten (sym kind_is)
 
   within : back.block - now.first + n ≤ length now.cells
   within = let begins = run.low in let ends = run.high in omega arith
+
+  unwritten_at : (k : ℕ) (was : Cell) → k < n → slice_get now.cells (back.block - now.first + k) ≡ Some was → is_unwritten was.kind ≡ is_unwritten kind
+  unwritten_at k was l at = ap is_unwritten (sym (out_now k was l at).kind) ∙ unwritten-after h.kind k ∙ ap is_unwritten (sym kind_is)
 
   part_there : (k : ℕ) (was : Cell) (l : k < n) (at : slice_get now.cells (back.block - now.first + k) ≡ Some was) → slice_get back.parts k ≡ Some (part_after op done.landed k (out_now k was l at).part)
   part_there k was l at = ap (λ ps. slice_get ps k) may.is_return.parts ∙ after-at op done.landed k h.lent.value.parts (out_now k was l at).part (out_now k was l at).part_is
@@ -223,7 +157,7 @@ module _ (opening now : RangeView) (history : List Entry) (stakes : List RangeSt
       let z : 0 + j ≡ j = omega arith in
       let P : Bool → Type 0 = λ u. pending (f j x) + lost_by op u ≡ pending x + 0 in
       let J : ℕ → Type 0 = λ m. pending (f m x) + lost ≡ pending x + 0 in
-      subst J (sym z) (subst P (unwritten_at j x l at) (back_pending op by done.failed back.parts j out.ticket _ x (part_there j x l at) out.away out.space))) in
+      subst J (sym z) (subst P (unwritten_at j x l at) (back_pending op by lender done.failed back.parts j out.ticket _ x to (part_there j x l at) out.away out.space))) in
       let rise = rise-within op done.failed (is_unwritten kind) in
       let room = t.cookie_has_headroom in
       let many_lost = at_least n lost run.some in
@@ -245,50 +179,18 @@ module _ (opening now : RangeView) (history : List Entry) (stakes : List RangeSt
       none true e = absurd (omega arith)
       none false e = refl
 
-  back_counts : CountsNext opening.geometry.block_size now next entry
-  back_counts = record {
-    geometry = refl;
-    mode = refl;
-    first = refl;
-    pool = refl;
-    errors = let p = t.errors_counted in omega arith;
-    tickets = quiet_tickets opening now history entry stakes t refl;
-    cookie = refl;
-    log = ap (λ m. now.log ++ direct_stamps by op back.block kind m done) (sym bytes_many);
-    headroom = headroom;
-    uncached = λ d. absurd (cached d);
-    space = back_space opening.geometry.block_size op done.failed back.parts (back.block - now.first) n now.cells now.space t.pool_claims_sectors;
-    found = found_on now back.block n (in_run back.block (length (map (λ (p : Page). p.bytes) (pages_held claims.held)))) (λ b s. is_out back.ticket (Direct by op) s.away && is_kind (kind_after kind (b - back.block)) s.kind) run.low
-        (λ b e. ap (λ m. in_run back.block m b) bytes_many ∙ e)
-        (λ k c l at.
-        let out = out_now k c l at in
-        both (is_out back.ticket (Direct by op) c.away) _ (out-found back.ticket (Direct by op) c.away (record { ticket = out.ticket; lender = Direct by op }) out.away (out.ticket_is ∙ sym may.is_return.ticket) refl)
-        (kind-found kind h.kind c.kind back.block k (sym kind_is) out.kind));
-  }
-    where
-      cached : now.mode ≡ Dax → ⊥
-      cached d =
-          let blank : Cell = record { kind = Hole; sector = None; away = None; page = None; dirty = false } in
-          let first : Cell = get_or now.cells (back.block - now.first + 0) blank in
-          let some = run.some in
-          let ends = within in
-          let at : slice_get now.cells (back.block - now.first + 0) ≡ Some first = slice_get-get_or now.cells (back.block - now.first + 0) blank (omega arith) in
-          let out = out_now 0 first some at in
-          let home = (All-there IsUncached now.cells _ first (t.dax_is_uncached d) at).home in
-          let gone = out.away in
-          cc
-
-  -- the truth holds after the return
-  pub back_truth : RangeTruth opening next (history ++ entry ∷ []) others
-  back_truth =
-      changed_truth opening now next history entry stakes number claims (released claims) made (came_back op done.failed back.parts) back.block n t here back_changes back_counts
-      (samples_next now next history entry refl (omega arith) kinds_stay t.samples_give_extents tt) (record { caller = refl; spare = refl; main = refl }) refl
-
   blank : Cell
   blank = record { kind = Hole; sector = None; away = None; page = None; dirty = false }
 
   there_at : (k : ℕ) → k < n → slice_get now.cells (back.block - now.first + k) ≡ Some (get_or now.cells (back.block - now.first + k) blank)
   there_at k l = let ends = within in slice_get-get_or now.cells (back.block - now.first + k) blank (omega arith)
+
+  -- a loan in part is of one block
+  pub lent_alone : IsAlone n lender
+  lent_alone =
+      let first : Cell = get_or now.cells (back.block - now.first + 0) blank in
+      let out = out_now 0 first run.some (there_at 0 run.some) in
+      alone_of opening.geometry.block_size (back.block + 0) n _ h.lent.value out.part.page lender many out.around
 
   -- the pages of mapped blocks that landed have the contents of these blocks
   pub back_reads : ReadsContents opening history op kind back.block done.landed (map (λ p. p.page) back.parts)
@@ -351,6 +253,96 @@ module _ (opening now : RangeView) (history : List Entry) (stakes : List RangeSt
       kept_dirty Write true part x = home_dirty part x
       kept_dirty Write false part x = home_dirty part x
 
+  module _ (entry : Entry) (tells : TellsBack opening.geometry.block_size by op lender back done kind h claims.caller entry) where
+    -- what the k-th block has after the return agrees with its part
+    agrees_at : (k : ℕ) (was : Cell) (content : Content) (l : k < n) (true_at : IsTrueAt opening.geometry.block_size (back.block + k) was content stakes)
+        → AgreesBack opening.geometry.block_size op done k was.kind (out_at k was content l true_at).part content (content_after opening.geometry.block_size (back.block + k) content entry)
+    agrees_at k was content l true_at =
+        let size : ℕ = opening.geometry.block_size in
+        let out = out_at k was content l true_at in
+        let A : Content → Type 0 = λ x. AgreesBack size op done k was.kind out.part content x in
+        let mapped : is_mapped kind ≡ is_mapped was.kind = ap is_mapped kind_is ∙ sym (mapped-after h.kind k) ∙ ap is_mapped out.kind in
+        let failed : done.failed ≡ nat_lt done.landed n = may.is_return.failed ∙ ap (λ m. nat_lt done.landed m) (sym many) in
+        subst A (sym (tells.inside k out.part content l out.part_is out.around))
+        (agrees_back size op done n k kind was.kind out.part content mapped out.space true_at.whole out.whole out.lent failed l)
+
+    abbrev others : List RangeStake
+    others = set stakes number (Some (released claims), made ++ entry ∷ [])
+
+    seat_changes : ChangesSeat stakes others claims (released claims)
+    seat_changes = record { number = number; made = made; now = made ++ entry ∷ []; here = here.here; is = refl }
+
+    back_changes : ChangesRun opening now next history entry stakes number claims (released claims) made (came_back op done.failed back.parts) back.block n
+    back_changes =
+        let size : ℕ = opening.geometry.block_size in
+        let begins = run.low in
+        let first = t.same_run.first in
+        record {
+          low = omega arith;
+          cells = ap (λ l. on_each (came_back op done.failed back.parts) 0 l n now.cells) (sym low_is);
+          outside = λ b outside. record {
+            content = λ x. tells.outside b x outside;
+            state = λ s. tells.stays b s outside;
+            claims = λ c x. unnamed_true size b c x stakes others claims (released claims) seat_changes (ap (names_block b) may.is_return.held ∙ names_it b ∙ outside) refl;
+          };
+          inside = λ k was content l at true_at.
+              let out = out_at k was content l true_at in
+              let b : ℕ = back.block + k in
+              let inside : in_run back.block n b ≡ true = in_run-true back.block n b (omega arith) (omega arith) in
+              let named : names_block b (Some h) ≡ true = names_it b ∙ inside in
+              let T : List Part → Type 0 = λ ps. IsTrueAt size b (came_back op done.failed ps k was) (content_after size b content entry) others in
+              let parts : back.parts ≡ parts_after op done.landed h.lent.value.parts = may.is_return.parts in
+              record {
+                state =
+                    back_state op done.failed back.parts k (part_after op done.landed k out.part) was (ap (λ ps. slice_get ps k) parts ∙ after-at op done.landed k h.lent.value.parts out.part out.part_is)
+                    ∙ sym (tells.becomes b (state_of was) inside);
+                holds = subst T (sym parts)
+                    (back_true size b k was content _ op lender done h stakes others claims (released claims) seat_changes may.is_return.held refl named out (agrees_at k was content l true_at)
+                    (placed_at k was l (at_now k was at) true_at.place) true_at);
+              };
+        }
+
+    -- the entry says of each block what the block was
+    back_found : IsAsFound opening.geometry.block_size now entry
+    back_found i c at =
+        met_fits (fits_by opening.geometry.block_size (now.first + i) entry (state_of c)) (in_run back.block n (now.first + i)) (tells.found_out (now.first + i) (state_of c))
+        (found_run now back.block n (λ b s. fits_by opening.geometry.block_size b entry s) run.low
+        (λ k x l there.
+        let out = out_now k x l there in
+        tells.found_in k (state_of x) l (out-found back.ticket lender x.away (record { ticket = out.ticket; lender = lender }) out.away (out.ticket_is ∙ sym may.is_return.ticket) refl) out.kind)
+        i c at)
+
+    back_counts : CountsNext opening.geometry.block_size now next entry
+    back_counts = record {
+      geometry = refl;
+      mode = refl;
+      first = refl;
+      pool = refl;
+      errors = let p = t.errors_counted in let none = tells.failed in omega arith;
+      tickets = quiet_tickets opening now history entry stakes t tells.lent;
+      cookie = ap (λ m. now.cookie + m) (sym tells.changed);
+      log = ap (λ l. now.log ++ l) (sym tells.stamps);
+      headroom = headroom;
+      uncached = λ d. absurd (cached d);
+      space = back_space opening.geometry.block_size op done.failed back.parts (back.block - now.first) n now.cells now.space t.pool_claims_sectors;
+      found = back_found;
+    }
+      where
+        cached : now.mode ≡ Dax → ⊥
+        cached d =
+            let first : Cell = get_or now.cells (back.block - now.first + 0) blank in
+            let at = there_at 0 run.some in
+            let out = out_now 0 first run.some at in
+            let home = (All-there IsUncached now.cells _ first (t.dax_is_uncached d) at).home in
+            let gone = out.away in
+            cc
+
+    -- the truth holds after the return
+    pub back_truth : RangeTruth opening next (history ++ entry ∷ []) others
+    back_truth =
+        changed_truth opening now next history entry stakes number claims (released claims) made (came_back op done.failed back.parts) back.block n t here back_changes back_counts
+        (samples_next now next history entry refl (omega arith) kinds_stay t.samples_give_extents (tells.sample next)) (record { caller = refl; spare = refl; main = refl }) tells.caller_is
+
 -- what the event says of what it leaves and answers
 pub record DirectReturned (now next : RangeView) (claims left : ClaimsView) (by : Tag) (op : Op) (back : Lent) (done : Done) (pages : List Part) : Type 0 where
   pub state : next ≡ after_direct_back now by op (kind_held claims.held) back done
@@ -361,37 +353,54 @@ pub record DirectReturned (now next : RangeView) (claims left : ClaimsView) (by 
 
 module _ (opening now : RangeView) (history : List Entry) (stakes : List RangeStake) (number : ℕ) (claims : ClaimsView) (made : List Entry) (change : DirectBackRun) (back : Lent)
     (t : RangeTruth opening now history stakes) (here : Works stakes number claims made) (ready : ReadyToReturn change opening claims) (given : change.back ≡ Some back) where
-  pub may_return : MayComeBack opening claims (Direct change.by change.op) change.op back change.done
+  pub may_return : MayComeBack opening claims ready.lender change.op back change.done
   may_return =
       let same : ready.back ≡ back = cc (ready.back_is, given) in
-      let M : Lent → Type 0 = λ l. MayComeBack opening claims (Direct change.by change.op) change.op l change.done in
+      let M : Lent → Type 0 = λ l. MayComeBack opening claims ready.lender change.op l change.done in
       subst M same ready.may
 
-  pub comes_home : ComesBack now claims (Direct change.by change.op) change.op back change.done
-  comes_home = comes_back opening now history stakes number claims made (Direct change.by change.op) change.op back change.done t here may_return
+  pub comes_home : ComesDirectly now claims change.by change.op back change.done
+  comes_home = record {
+    lender = ready.lender;
+    comes = comes_back opening now history stakes number claims made ready.lender change.op back change.done t here may_return;
+    lent_to = ready.lent_to;
+  }
 
   pub cookie_ready : now.cookie ≤ WORN + 65536
-  cookie_ready = cookie_left opening now history stakes number claims made change.by change.op back change.done t here may_return
+  cookie_ready = cookie_left opening now history stakes number claims made change.by change.op ready.lender back change.done t here may_return ready.lent_to
 
   back_is : back_in change ≡ back
   back_is = ap (λ o. back_in (record change { back = o })) given
+
+  lender_is : ready.lender ≡ lender_held claims.held
+  lender_is = sym may_return.lent_for ∙ sym (ap lender_held may_return.is_return.held)
+
+  -- the entry of the return tells what came back
+  abbrev entry_of : ℕ → Lent → Lender → Entry
+  entry_of size l lender = record { caller = claims.caller; event = back_event size change.by change.op l claims.held change.done lender; outcome = Finished }
+
+  told : TellsBack opening.geometry.block_size change.by change.op ready.lender back change.done (kind_held claims.held) may_return.claim claims.caller (entry_of opening.geometry.block_size back ready.lender)
+  told =
+      tells_back opening.geometry.block_size change.by change.op ready.lender back change.done may_return.claim claims ready.lent_to may_return.is_return
+      (lent_alone opening now history stakes number claims made change.by change.op ready.lender back change.done t here may_return ready.lent_to)
 
   pub turned_back : (next : RangeView) (left : ClaimsView) (later : DirectBackRun) (pages : List Part) → later ≡ record change { back = None } → DirectReturned now next claims left change.by change.op back change.done pages
       → Advanced RangeTruth (λ opening history entry. ReturnedDirectly change later opening history now next claims left pages entry) opening next history stakes number left made
   turned_back next left later pages used r =
       let kind : Kind = kind_held claims.held in
-      let bytes : List (List ℕ) = map (λ p. p.bytes) (pages_held claims.held) in
-      let entry_of : Lent → Entry = λ l. record { caller = claims.caller; event = DirectBack change.by change.op l.ticket l.block kind bytes change.done; outcome = Finished } in
-      let e : Entry = entry_of (back_in change) in
+      let size : ℕ = opening.geometry.block_size in
+      let told_entry : Entry = entry_of size back ready.lender in
+      let e : Entry = back_entry now.geometry.block_size claims change in
+      let is : told_entry ≡ e = ap (λ l. entry_of size back l) lender_is ∙ ap (λ l. entry_of size l (lender_held claims.held)) (sym back_is) ∙ ap (λ g. entry_of g (back_in change) (lender_held claims.held)) (ap (λ g. g.block_size) (sym t.same_run.geometry)) in
       let E : Entry → Type 0 = λ x. RangeTruth opening next (history ++ x ∷ []) (set stakes number (Some left, made ++ x ∷ [])) in
-      let N : RangeView → Type 0 = λ v. RangeTruth opening v (history ++ entry_of back ∷ []) (set stakes number (Some left, made ++ entry_of back ∷ [])) in
-      let L : ClaimsView → Type 0 = λ c. RangeTruth opening (after_direct_back now change.by change.op kind back change.done) (history ++ entry_of back ∷ []) (set stakes number (Some c, made ++ entry_of back ∷ [])) in
+      let N : RangeView → Type 0 = λ v. RangeTruth opening v (history ++ told_entry ∷ []) (set stakes number (Some left, made ++ told_entry ∷ [])) in
+      let L : ClaimsView → Type 0 = λ c. RangeTruth opening (after_direct_back now change.by change.op kind back change.done) (history ++ told_entry ∷ []) (set stakes number (Some c, made ++ told_entry ∷ [])) in
       let R : List Page → Type 0 = λ ps. ReadsContents opening history change.op kind back.block change.done.landed ps in
       let S : Lent → Type 0 = λ l. ReadsContents opening history change.op kind l.block change.done.landed (pages_of pages) in
       let C : RangeView → Type 0 = λ v. (k : ℕ) (c : Cell) → k < length back.parts → slice_get v.cells (back.block - v.first + k) ≡ Some c → IsNotUptodate c in
       let many : length (pages_of pages) ≡ length back.parts = ap length r.pages_are ∙ length_pages back.parts in
       let D : Lent → Type 0 = λ l. (k : ℕ) (c : Cell) → k < length (pages_of pages) → slice_get next.cells (l.block - next.first + k) ≡ Some c → IsNotUptodate c in
-      let cold : C next = subst C (sym r.state) (back_cold opening now history stakes number claims made change.by change.op back change.done t here may_return) in
+      let cold : C next = subst C (sym r.state) (back_cold opening now history stakes number claims made change.by change.op ready.lender back change.done t here may_return ready.lent_to) in
       record {
         entry = e;
         done = record {
@@ -402,10 +411,10 @@ module _ (opening now : RangeView) (history : List Entry) (stakes : List RangeSt
           pages_are = r.pages_are ∙ ap (λ (l : Lent). map (λ (p : Part). p.page) l.parts) (sym back_is);
           bare = r.bare;
           kept = r.kept;
-          reads = subst S (sym back_is) (subst R (sym r.pages_are) (back_reads opening now history stakes number claims made change.by change.op back change.done t here may_return));
+          reads = subst S (sym back_is) (subst R (sym r.pages_are) (back_reads opening now history stakes number claims made change.by change.op ready.lender back change.done t here may_return ready.lent_to));
           entry_is = refl;
         };
-        holds = subst E (sym (ap entry_of back_is)) (subst N (sym r.state) (subst L (sym r.claims_are) (back_truth opening now history stakes number claims made change.by change.op back change.done t here may_return)));
+        holds = subst E is (subst N (sym r.state) (subst L (sym r.claims_are) (back_truth opening now history stakes number claims made change.by change.op ready.lender back change.done t here may_return ready.lent_to told_entry told)));
       }
     where
       length_pages : (parts : List Part) → length (map (λ (p : Part). p.page) parts) ≡ length parts

@@ -20,7 +20,7 @@ use Rattle.range_core.specs.Spots.{in_run, is_met}
 use Rattle.range_core.specs.declared.cell.Cell.{Cell}
 use Rattle.range_core.specs.declared.lending.Away.{Away}
 use Rattle.range_core.specs.declared.lending.Lender.{Lender}
-use Rattle.range_core.specs.declared.lending.Lender.TheVariants.{Reading, Writeback, Direct}
+use Rattle.range_core.specs.declared.lending.Lender.TheVariants.{Reading, Writeback, Direct, Part as InPart}
 use Rattle.range_core.specs.declared.parts.ByteRun.{ByteRun}
 use Rattle.range_core.specs.ByteRuns.{IsByteRun}
 use Rattle.range_core.proofs.AfterRun.{in_run-bounds}
@@ -91,6 +91,7 @@ same_lender : (l : Lender) → is_same_lender l l ≡ true
 same_lender Reading = refl
 same_lender Writeback = refl
 same_lender (Direct by op) = both (nat_eq by.caller by.caller) _ (eq-eqb _ _ refl) (both (nat_eq by.call by.call) _ (eq-eqb _ _ refl) (same_op op))
+same_lender (InPart by from to) = both (nat_eq by.caller by.caller) _ (eq-eqb _ _ refl) (both (nat_eq by.call by.call) _ (eq-eqb _ _ refl) (both (nat_eq from from) _ (eq-eqb _ _ refl) (eq-eqb _ _ refl)))
 
 -- a block that is away on this ticket to this lender is out so
 pub out-found : (ticket : ℕ) (lender : Lender) (o : Option Away) (away : Away) → o ≡ Some away → away.ticket ≡ ticket → away.lender ≡ lender → is_out ticket lender o ≡ true
@@ -118,6 +119,7 @@ page-found b (Some away) e = at away.lender e
     at Reading e = absurd (cc)
     at Writeback e = refl
     at (Direct tag op) e = absurd (cc)
+    at (InPart tag from to) e = absurd (cc)
 
 -- what a state tells of cold is so of its block
 pub cold-state : (c : Cell) → is_cold_in (state_of c) ≡ is_cold c

@@ -9,7 +9,7 @@ use Rattle.io_model.specs.Effects.{overlay}
 use Rattle.io_model.specs.Lists.{bytes_between}
 use Rattle.io_model.specs.Parts.{part_in, span}
 use Rattle.io_model.specs.declared.file.Kind.TheVariants.{Hole}
-use Rattle.range_core.specs.BlockTruth.{AwayIsClaimed, FitsAway, FitsLender, HomeContent, IsTrueAt}
+use Rattle.range_core.specs.BlockTruth.{AwayIsClaimed, FitsAway, FitsLender, HomeContent, IsAround, IsTrueAt}
 use Rattle.range_core.specs.ByteRuns.{IsByteRun, part_at}
 use Rattle.range_core.specs.Cells.{HasPlace}
 use Rattle.range_core.specs.Pages.{zero_page}
@@ -28,7 +28,7 @@ use Rattle.range_core.proofs.ClaimedPages.{home_without_page, is_blank, lent_for
 use Rattle.range_core.proofs.PagingLemmas.{either_filled}
 use Rattle.range_core.proofs.StoreLemmas.{part_piece}
 
-length-overlay : (place : ℕ) (bytes content : List ℕ) → place + length bytes ≤ length content → length (overlay place bytes content) ≡ length content
+pub length-overlay : (place : ℕ) (bytes content : List ℕ) → place + length bytes ≤ length content → length (overlay place bytes content) ≡ length content
 length-overlay place bytes content h = simp (length-append, length-drop, length-take) (omega arith)
 
 module _ (run : ByteRun) (r : IsByteRun run) (bytes : List ℕ) (all : length bytes ≡ run.to - run.from) (k : ℕ) (l : k < run.blocks) where
@@ -79,6 +79,7 @@ module _ (run : ByteRun) (r : IsByteRun run) (bytes : List ℕ) (all : length by
   fits_dirty c content after P (Some away) None page free f = tt
   fits_dirty c content after P (Some away) (Some h) page free f =
       let L : Lender → Type 0 = λ x. FitsLender run.size (laid run bytes k c) after f.part x in
+      let A : Lender → Type 0 = λ x. IsAround run.size b after h.lent.value f.part.page x in
       record {
         ticket = f.ticket;
         lender = f.lender;
@@ -88,6 +89,7 @@ module _ (run : ByteRun) (r : IsByteRun run) (bytes : List ℕ) (all : length by
         sector = f.sector;
         page = f.page;
         fits = subst L (sym (lent_for_writeback b away.ticket away.lender free)) (unclean c.page page);
+        around = subst A (sym (lent_for_writeback b away.ticket away.lender free)) tt;
       }
     where
       unclean : (o : Option Page) → IsSomeAnd o P → IsSomeAnd (on_page (overlaid run.size run.from run.to bytes b) o) (λ p. true ≡ false → p.bytes ≡ f.part.page.bytes)

@@ -58,11 +58,11 @@ pub record AreLendable (r : RangeView) (seen : Sample) (op : Op) (block n : ℕ)
   pub each : (k : ℕ) (c : Cell) → k < n → slice_get r.cells (block - r.first + k) ≡ Some c → IsLendable seen block k c
   pub left : will_convert op seen.extent.kind ≡ true → r.cookie < WORN
 
-not-false : (t : Bool) → not t ≡ false → t ≡ true
+pub not-false : (t : Bool) → not t ≡ false → t ≡ true
 not-false true e = refl
 not-false false e = absurd (cc)
 
-at_home : (b : ℕ) (c : Cell) → away b c ≡ None → c.away ≡ None
+pub at_home : (b : ℕ) (c : Cell) → away b c ≡ None → c.away ≡ None
 at_home b c e = at c.away e
   where
     at : (a : Option Away) → Rattle.range_core.specs.Refusals.away_at b a ≡ None → a ≡ None
@@ -173,7 +173,7 @@ part_block size (Some d) None h = absurd h
 part_block size (Some d) (Some s) h = h
 
 -- a clean block at home that is lent has its content in the sector where it is mapped, and reads as zeros elsewhere
-part_content : (size : ℕ) (mapped : Bool) (sector : Option DeviceBlock) (content : Content) → IsSome sector → (mapped ≡ true → IfSome sector (λ s. s.bytes ≡ content)) → (mapped ≡ false → content ≡ zeros size)
+pub part_content : (size : ℕ) (mapped : Bool) (sector : Option DeviceBlock) (content : Content) → IsSome sector → (mapped ≡ true → IfSome sector (λ s. s.bytes ≡ content)) → (mapped ≡ false → content ≡ zeros size)
     → (page : Page) → IsLentContent size mapped content (record { sector = unwrap_or sector BLANK; page = page })
 part_content size true None content h on_device zero page = absurd (cc)
 part_content size true (Some s) content h on_device zero page = on_device refl
@@ -206,6 +206,7 @@ lent_true size b was content by op ticket p h stakes others claims left g none s
       sector = part_block size (device_number was.kind) was.sector placed;
       page = whole;
       fits = (part_content size (is_mapped was.kind) was.sector content (sector_of size was.kind was.sector placed space) (λ m. here.clean_is_on_device m clean) (λ m. here.spaceless_is_zeros m clean) p, refl);
+      around = tt;
     } in
     record {
       whole = t.whole;

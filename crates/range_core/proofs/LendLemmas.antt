@@ -20,7 +20,7 @@ use Rattle.range_core.specs.RangeView.{IsSound, RangeView, range_view}
 use Rattle.range_core.specs.declared.cell.Cell.{Cell}
 use Rattle.range_core.specs.declared.lending.Away.{Away}
 use Rattle.range_core.specs.declared.lending.Lender.{Lender}
-use Rattle.range_core.specs.declared.lending.Lender.TheVariants.{Reading, Writeback, Direct}
+use Rattle.range_core.specs.declared.lending.Lender.TheVariants.{Reading, Writeback, Direct, Part as InPart}
 use Rattle.range_core.proofs.FirstTruth.{All-there}
 use Rattle.range_core.proofs.OnRunLemmas.{length-on_each, map-on_each}
 use Rattle.range_core.proofs.SoundLemmas.{All-on_each_at, room_for_returns, sound_unlogged}
@@ -93,6 +93,7 @@ lent-kind away c = at away.lender
     at Reading = refl
     at Writeback = refl
     at (Direct by op) = refl
+    at (InPart by from to) = refl
 
 -- it is away then, and its sector with it
 pub lent-away : (away : Away) (c : Cell) → (lent_cell away c).away ≡ Some away
@@ -102,6 +103,7 @@ lent-away away c = at away.lender
     at Reading = refl
     at Writeback = refl
     at (Direct by op) = refl
+    at (InPart by from to) = refl
 
 pub lent-sector : (away : Away) (c : Cell) → (lent_cell away c).sector ≡ None
 lent-sector away c = at away.lender
@@ -110,6 +112,7 @@ lent-sector away c = at away.lender
     at Reading = refl
     at Writeback = refl
     at (Direct by op) = refl
+    at (InPart by from to) = refl
 
 -- it has its place elsewhere then
 pub lent-placed : (size : ℕ) (away : Away) (c : Cell) → IsTrue (has_space c.kind) → IsPlaced size (lent_cell away c)
@@ -119,6 +122,7 @@ lent-placed size away c h = at away.lender
     at Reading = (refl, h)
     at Writeback = (refl, h)
     at (Direct by op) = (refl, h)
+    at (InPart by from to) = (refl, h)
 
 -- a block at home whose kind has space has its sector
 pub sector_at_home : (size : ℕ) (c : Cell) → IsPlaced size c → c.away ≡ None → IsTrue (has_space c.kind) → IsSome c.sector

@@ -93,6 +93,7 @@ module _ (opening now : RangeView) (history : List Entry) (stakes : List RangeSt
         page_is = page.1;
         whole = cache.whole ∙ ap (λ (g : Layout). g.block_size) t.same_run.geometry;
         fits = (cold.mapped, ap (λ o. (unwrap_or o BLANK).bytes) has.is ∙ bytes, cold.page);
+        around = tt;
         stays = h.uptodate_is_replay;
         dirty = h.dirty_is_uptodate;
       })

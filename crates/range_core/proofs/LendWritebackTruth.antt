@@ -157,6 +157,7 @@ module _ (opening now : RangeView) (history : List Entry) (stakes : List RangeSt
         page_is = slice_get-map page_copy (take n (drop low now.cells)) k ∙ ap (option_map page_copy) (taken_at n low k now.cells was l at);
         whole = ap length bytes ∙ ap length has.bytes ∙ h.whole;
         fits = subst F (sym has.is) (λ _. sym bytes);
+        around = tt;
         stays = h.uptodate_is_replay;
         dirty = λ d. absurd (cc);
       })

@@ -1,6 +1,7 @@
 pub mod AfterBytes
 pub mod AfterEntry
 pub mod AfterRun
+pub mod AroundLemmas
 pub mod AttachTruth
 pub mod ByteRunLemmas
 pub mod CachePages
@@ -18,6 +19,7 @@ pub mod DaxPutTruth
 pub mod DaxZeroLemmas
 pub mod DaxZeroTruth
 pub mod DirectBackBlocks
+pub mod DirectBackEntries
 pub mod DirectBackLemmas
 pub mod DirectBackTruth
 pub mod DirectNowLemmas
@@ -55,6 +57,7 @@ pub mod LoanTurns
 pub mod MergeLemmas
 pub mod OnRunLemmas
 pub mod PagingLemmas
+pub mod LendPartTruth
 pub mod PartRuns
 pub mod PlaceLemmas
 pub mod PlaceSpace

@@ -8,7 +8,7 @@ use Rattle.io_model.specs.Contents.{Content}
 use Rattle.io_model.specs.Kinds.{device_number, kind_after}
 use Rattle.io_model.specs.declared.file.Kind.{Kind}
 use Rattle.io_model.specs.declared.file.Kind.TheVariants.{Hole}
-use Rattle.range_core.specs.BlockTruth.{FitsClaim, FitsLender, HomeContent, IsHomeContent, IsTrueAt, IsWholePage}
+use Rattle.range_core.specs.BlockTruth.{FitsClaim, FitsLender, HomeContent, IsAround, IsHomeContent, IsTrueAt, IsWholePage}
 use Rattle.range_core.specs.Cells.{HasPlace, HasSector, IsBlock, IsPlaced}
 use Rattle.range_core.specs.ClaimsView.{ClaimsView}
 use Rattle.range_core.specs.Kinds.{has_space, is_mapped}
@@ -20,6 +20,7 @@ use Rattle.range_core.specs.declared.entry.Entry.{Entry}
 use Rattle.range_core.specs.declared.lending.Away.{Away}
 use Rattle.range_core.specs.declared.lending.Held.{Held}
 use Rattle.range_core.specs.declared.lending.Lender.{Lender}
+use Rattle.range_core.specs.declared.lending.Lent.{Lent}
 use Rattle.range_core.proofs.ReturnHomeLemmas.{away_space}
 use Rattle.range_core.proofs.LendLemmas.{parts_of-at}
 use Rattle.range_core.proofs.LoanLemmas.{loan_is_claimed, others_stay_claimed, return_frees_claim}
@@ -79,14 +80,16 @@ has_block size c p home space = let P : Option Away → Type 0 = λ a. HasPlace 
 -- the claim on a loan fits each of its blocks
 pub loan_fits : (size low block ticket k : ℕ) (cells : List Cell) (pages : List Page) (lender : Lender) (h : Held) (was c : Cell) (page : Page) (content : Content) → h.lent.value ≡ lent_of ticket block (parts_of (drop low cells) pages) → h.lender ≡ lender
     → slice_get cells (low + k) ≡ Some was → slice_get pages k ≡ Some page → kind_after h.kind k ≡ c.kind → c.kind ≡ was.kind → HasBlock size was → IsWholePage size page → FitsLender size c content (part_of was page) lender
+    → IsAround size (block + k) content (lent_of ticket block (parts_of (drop low cells) pages)) page lender
     → FitsClaim size (block + k) c content (record { ticket = ticket; lender = lender }) h
-loan_fits size low block ticket k cells pages lender h was c page content lent for at pat kind same has whole fits =
+loan_fits size low block ticket k cells pages lender h was c page content lent for at pat kind same has whole fits around =
     let begins : h.lent.value.block ≡ block = ap (λ l. l.block) lent in
     let off : block + k - h.lent.value.block ≡ k = omega arith in
     let parts : h.lent.value.parts ≡ parts_of (drop low cells) pages = ap (λ l. l.parts) lent in
     let sector : (part_of was page).sector ≡ has.sector = ap (λ o. unwrap_or o BLANK) has.is in
     let S : DeviceBlock → Type 0 = λ s. IfSome (device_number was.kind) (λ d. IsBlock size d s) in
     let K : Kind → Type 0 = λ x. IfSome (device_number x) (λ d. IsBlock size d (part_of was page).sector) in
+    let A : Lent → Type 0 = λ l. IsAround size (block + k) content l page lender in
     record {
       ticket = ap (λ l. l.ticket) lent;
       lender = for;
@@ -96,6 +99,7 @@ loan_fits size low block ticket k cells pages lender h was c page content lent f
       sector = subst K (sym same) (subst S (sym sector) has.block);
       page = whole;
       fits = fits;
+      around = subst A (sym lent) around;
     }
 
 -- at home, the sector of a clean mapped block has its content

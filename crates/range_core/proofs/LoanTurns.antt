@@ -11,7 +11,7 @@ use Rattle.io_model.specs.declared.file.Kind.TheVariants.{Hole}
 use Rattle.turn_cell.specs.Stakes.{total}
 use Rattle.range_core.specs.BlockContents.{content_after}
 use Rattle.range_core.specs.BlockStates.{BlockState, state_after, state_of}
-use Rattle.range_core.specs.BlockTruth.{FitsLender, IsTrueAt, IsWholePage}
+use Rattle.range_core.specs.BlockTruth.{FitsLender, IsAround, IsTrueAt, IsWholePage}
 use Rattle.range_core.specs.ClaimsView.{ClaimsView, holding}
 use Rattle.range_core.specs.EntryCounts.{changes, failures, lendings}
 use Rattle.range_core.specs.EntryStamps.{stamps_of}
@@ -80,6 +80,7 @@ module _ (opening now : RangeView) (history : List Entry) (stakes : List RangeSt
     pub page_is : slice_get pages k ≡ Some page
     pub whole : IsWholePage size page
     pub fits : FitsLender size (lent_cell away was) content (part_of was page) lender
+    pub around : IsAround size (block + k) content (lent_of now.tickets block (parts_of (cells_from now block) pages)) page lender
     pub stays : IfSome (lent_cell away was).page (λ p. p.bytes ≡ content)
     pub dirty : (lent_cell away was).dirty ≡ true → IsSomeAnd (lent_cell away was).page (λ p. (lent_cell away was).kind ≢ Hole)
 
@@ -93,7 +94,7 @@ module _ (opening now : RangeView) (history : List Entry) (stakes : List RangeSt
       let has = has_block size was t.place b.home b.space in
       true_lent size (block + k) was (lent_cell away was) content away hold.claim stakes others claims left (changes_seat stakes number claims left made entry here) free (ap (λ (v : ClaimsView). v.held) hold.left_is) named b.home (lent-away away was) (lent-sector away was)
       (let S : Kind → Type 0 = λ x. IsTrue (has_space x) in subst S (sym kind) b.space) b.stays b.dirty
-      (loan_fits size low block now.tickets k now.cells pages lender hold.claim was (lent_cell away was) b.page content hold.lent_is hold.lender_is at b.page_is (ap (λ q. kind_after q k) hold.kind_is ∙ b.kind ∙ sym kind) kind has b.whole b.fits)
+      (loan_fits size low block now.tickets k now.cells pages lender hold.claim was (lent_cell away was) b.page content hold.lent_is hold.lender_is at b.page_is (ap (λ q. kind_after q k) hold.kind_is ∙ b.kind ∙ sym kind) kind has b.whole b.fits b.around)
       t
 
   pub loan_truth : RangeTruth opening now history stakes → Works stakes number claims made → opening.first ≤ block → claims.held ≡ None → Holds → length pages ≡ n → low + n ≤ length now.cells → IsLoan

@@ -3,6 +3,7 @@ use Rattle.std.proofs.Common.{◌≡◌, ℕ, zero, suc, ◌+◌, ◌-◌, ◌/�
 use Rattle.std.specs.Prelude.{is_none, is_some, slice_get}
 use Rattle.std.specs.List.{list_any}
 use Rattle.iob_base.specs.declared.sector.Page.{Page}
+use Rattle.iob_base.specs.declared.stamp.Op.TheVariants.{Write}
 use Rattle.range_core.specs.BlockStates.{BlockState, read_back, state_of, states_replayed}
 use Rattle.range_core.specs.Kinds.{has_space, is_delalloc, is_hole, is_mapped, is_unwritten}
 use Rattle.range_core.specs.RangeView.{RangeView}
@@ -124,6 +125,10 @@ module _ (r q : RangeView) (geometry : r.geometry ≡ q.geometry) (first : r.fir
         (or-alike _ _ _ _ (stops not_ready ready-alike b 1) (worn-alike _ _ (some (λ c. is_unwritten c.kind) (λ c d e. ap (λ (s : BlockState). is_unwritten s.kind) e) b 1)));
     lend_direct = λ seen op b n. or-alike _ _ _ _ (stale-alike seen)
         (or-alike _ _ _ _ (stops away away-alike b n) (or-alike _ _ _ _ (stops dirty dirty-alike b n) (worn-alike (will_convert op seen.extent.kind) (will_convert op seen.extent.kind) refl)));
+    lend_part = λ seen b. or-alike _ _ _ _ (stale-alike seen)
+        (or-alike _ _ _ _ (stops away away-alike b 1)
+        (or-alike _ _ _ _ (stops cold (λ i c d e. ap (λ t. where_true t (Cold i)) (cold-alike c d e)) b 1)
+        (or-alike _ _ _ _ (stops dirty dirty-alike b 1) (worn-alike (will_convert Write seen.extent.kind) (will_convert Write seen.extent.kind) refl))));
     direct_now = λ b. or-alike _ _ _ _ (stops away away-alike b 1) (stops dirty dirty-alike b 1);
     wipe = λ b n. or-alike _ _ _ _ (stops away away-alike b n) (worn-alike _ _ (some (λ c. not (is_hole c.kind)) (λ c d e. ap (λ (s : BlockState). not (is_hole s.kind)) e) b n));
     dax_put = λ seen. or-alike _ _ _ _ (stale-alike seen) (worn-alike (not (is_mapped seen.extent.kind)) (not (is_mapped seen.extent.kind)) refl);

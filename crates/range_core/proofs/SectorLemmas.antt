@@ -4,13 +4,13 @@ use Rattle.std.proofs.lemmas.Bool.{and_parts}
 use Rattle.iob_base.specs.declared.stamp.Op.TheVariants.{Read, Write}
 use Rattle.io_model.specs.declared.file.Kind.{Kind}
 use Rattle.io_model.specs.declared.file.Kind.TheVariants.{Hole, Delalloc, Unwritten, Mapped}
-use Rattle.range_core.specs.BlockStates.{BlockState, at_home_again, becomes_hole, directly_back, is_zero_already, lent_clean, lent_for, put_through, state_after, state_by, taken_by, with_space, written_back, becomes_dirty, becomes_uptodate, lent_directly, read_back, without_page}
+use Rattle.range_core.specs.BlockStates.{BlockState, at_home_again, becomes_hole, directly_back, is_zero_already, lent_clean, lent_for, put_through, state_after, state_by, taken_by, with_space, written_back, becomes_dirty, becomes_uptodate, lent_directly, lent_in_part, read_back, without_page}
 use Rattle.range_core.specs.Happened.{fits_by, found_by, lawful_from, took_just}
 use Rattle.range_core.specs.Kinds.{has_space, is_delalloc, is_hole, is_mapped, written_kind}
 use Rattle.range_core.specs.Lasting.{KeepsSector, SectorsLast, is_unwiped, wipes}
 use Rattle.range_core.specs.Spots.{in_run, is_met}
 use Rattle.range_core.specs.declared.entry.Event.{Event}
-use Rattle.range_core.specs.declared.entry.Event.TheVariants.{Sample, Reserve, Unreserve, Attach, Preallocate, Fetch, LendRead, FillBack, Store, StoreZeros, LendWriteback, WrittenBack, DropClean, LendDirect, DirectBack, DirectNow, Wipe, DaxGet, DaxPut, DaxZero}
+use Rattle.range_core.specs.declared.entry.Event.TheVariants.{Sample, Reserve, Unreserve, Attach, Preallocate, Fetch, LendRead, FillBack, Store, StoreZeros, LendWriteback, WrittenBack, DropClean, LendDirect, LendPart, DirectBack, PartBack, DirectNow, Wipe, DaxGet, DaxPut, DaxZero}
 use Rattle.range_core.specs.declared.entry.Outcome.{Outcome}
 use Rattle.range_core.specs.declared.entry.Outcome.TheVariants.{Refused, Sampled, Counted, Took, Lending, Finished}
 use Rattle.range_core.specs.declared.lending.Lender.TheVariants.{Reading}
@@ -157,6 +157,12 @@ keeps size b s (LendDirect by seen op block n) (Counted m) found kept space = ab
 keeps size b s (LendDirect by seen op block n) (Took t) found kept space = absurd (cc)
 keeps size b s (LendDirect by seen op block n) (Lending t m) found kept space = if_keeps (in_run block n b) (lent_directly by op t s) s (stays s.kind)
 keeps size b s (LendDirect by seen op block n) Finished found kept space = stays s.kind
+keeps size b s (LendPart by seen block from to) (Refused f) found kept space = stays s.kind
+keeps size b s (LendPart by seen block from to) (Sampled g) found kept space = absurd (cc)
+keeps size b s (LendPart by seen block from to) (Counted m) found kept space = absurd (cc)
+keeps size b s (LendPart by seen block from to) (Took t) found kept space = absurd (cc)
+keeps size b s (LendPart by seen block from to) (Lending t m) found kept space = if_keeps (in_run block 1 b) (lent_in_part by from to t s) s (stays s.kind)
+keeps size b s (LendPart by seen block from to) Finished found kept space = absurd (cc)
 keeps size b s (DirectBack by Read ticket block kind pages done) (Refused f) found kept space = stays s.kind
 keeps size b s (DirectBack by Read ticket block kind pages done) (Sampled g) found kept space = absurd (cc)
 keeps size b s (DirectBack by Read ticket block kind pages done) (Counted m) found kept space = absurd (cc)
@@ -169,6 +175,12 @@ keeps size b s (DirectBack by Write ticket block kind pages done) (Counted m) fo
 keeps size b s (DirectBack by Write ticket block kind pages done) (Took t) found kept space = absurd (cc)
 keeps size b s (DirectBack by Write ticket block kind pages done) (Lending t m) found kept space = absurd (cc)
 keeps size b s (DirectBack by Write ticket block kind pages done) Finished found kept space = if_keeps (in_run block (length pages) b) (directly_back Write done.failed s) s (direct_keeps done.failed s space)
+keeps size b s (PartBack by ticket block kind from to bytes done) (Refused f) found kept space = stays s.kind
+keeps size b s (PartBack by ticket block kind from to bytes done) (Sampled g) found kept space = absurd (cc)
+keeps size b s (PartBack by ticket block kind from to bytes done) (Counted m) found kept space = absurd (cc)
+keeps size b s (PartBack by ticket block kind from to bytes done) (Took t) found kept space = absurd (cc)
+keeps size b s (PartBack by ticket block kind from to bytes done) (Lending t m) found kept space = absurd (cc)
+keeps size b s (PartBack by ticket block kind from to bytes done) Finished found kept space = if_keeps (in_run block 1 b) (directly_back Write done.failed s) s (direct_keeps done.failed s space)
 keeps size b s (DirectNow by block most) (Refused f) found kept space = stays s.kind
 keeps size b s (DirectNow by block most) (Sampled g) found kept space = absurd (cc)
 keeps size b s (DirectNow by block most) (Counted m) found kept space = if_keeps (in_run block m b && is_mapped s.kind) (without_page s) s (stays s.kind)

@@ -4,14 +4,14 @@ use Rattle.std.proofs.lemmas.Bool.{and_parts}
 use Rattle.iob_base.specs.declared.stamp.Op.TheVariants.{Read, Write}
 use Rattle.io_model.specs.Kinds.{is_kind, kind_after}
 use Rattle.io_model.specs.declared.file.Kind.TheVariants.{Delalloc}
-use Rattle.range_core.specs.BlockStates.{BlockState, at_home_again, becomes_hole, directly_back, is_zero_already, lent_clean, lent_for, put_through, state_after, state_by, states_replayed, taken_by, with_space, written_back, becomes_dirty, becomes_uptodate, lent_directly, read_back, without_page}
+use Rattle.range_core.specs.BlockStates.{BlockState, at_home_again, becomes_hole, directly_back, is_zero_already, lent_clean, lent_for, put_through, state_after, state_by, states_replayed, taken_by, with_space, written_back, becomes_dirty, becomes_uptodate, lent_directly, lent_in_part, read_back, without_page}
 use Rattle.range_core.specs.Happened.{fits_by, found_by, is_at_home, is_out, is_same_lender, keeps_page, lawful_from, is_cold_in}
 use Rattle.range_core.specs.Kinds.{has_space, is_delalloc, is_mapped}
 use Rattle.range_core.specs.Lasting.{MappedWasWritten, is_written, wipes, writes_to, written_after}
 use Rattle.range_core.specs.Spots.{in_run, is_met}
 use Rattle.range_core.specs.declared.entry.Entry.{Entry}
 use Rattle.range_core.specs.declared.entry.Event.{Event}
-use Rattle.range_core.specs.declared.entry.Event.TheVariants.{Sample, Reserve, Unreserve, Attach, Preallocate, Fetch, LendRead, FillBack, Store, StoreZeros, LendWriteback, WrittenBack, DropClean, LendDirect, DirectBack, DirectNow, Wipe, DaxGet, DaxPut, DaxZero}
+use Rattle.range_core.specs.declared.entry.Event.TheVariants.{Sample, Reserve, Unreserve, Attach, Preallocate, Fetch, LendRead, FillBack, Store, StoreZeros, LendWriteback, WrittenBack, DropClean, LendDirect, LendPart, DirectBack, PartBack, DirectNow, Wipe, DaxGet, DaxPut, DaxZero}
 use Rattle.range_core.specs.declared.entry.Outcome.{Outcome}
 use Rattle.range_core.specs.declared.entry.Outcome.TheVariants.{Refused, Sampled, Counted, Took, Lending, Finished}
 use Rattle.range_core.specs.declared.lending.Away.{Away}
@@ -197,6 +197,12 @@ writes size b s (LendDirect by seen op block n) (Counted m) before found was now
 writes size b s (LendDirect by seen op block n) (Took t) before found was now = absurd (cc)
 writes size b s (LendDirect by seen op block n) (Lending t m) before found was now = was (either (in_run block n b) (lent_directly by op t s) s (home_was s) now)
 writes size b s (LendDirect by seen op block n) Finished before found was now = was now
+writes size b s (LendPart by seen block from to) (Refused f) before found was now = was now
+writes size b s (LendPart by seen block from to) (Sampled g) before found was now = absurd (cc)
+writes size b s (LendPart by seen block from to) (Counted m) before found was now = absurd (cc)
+writes size b s (LendPart by seen block from to) (Took t) before found was now = absurd (cc)
+writes size b s (LendPart by seen block from to) (Lending t m) before found was now = was (either (in_run block 1 b) (lent_in_part by from to t s) s (home_was s) now)
+writes size b s (LendPart by seen block from to) Finished before found was now = absurd (cc)
 writes size b s (DirectBack by Read ticket block kind pages done) (Refused f) before found was now = was now
 writes size b s (DirectBack by Read ticket block kind pages done) (Sampled g) before found was now = absurd (cc)
 writes size b s (DirectBack by Read ticket block kind pages done) (Counted m) before found was now = absurd (cc)
@@ -209,6 +215,12 @@ writes size b s (DirectBack by Write ticket block kind pages done) (Counted m) b
 writes size b s (DirectBack by Write ticket block kind pages done) (Took t) before found was now = absurd (cc)
 writes size b s (DirectBack by Write ticket block kind pages done) (Lending t m) before found was now = absurd (cc)
 writes size b s (DirectBack by Write ticket block kind pages done) Finished before found was now = sent (in_run block (length pages) b) done.failed before s was now
+writes size b s (PartBack by ticket block kind from to bytes done) (Refused f) before found was now = was now
+writes size b s (PartBack by ticket block kind from to bytes done) (Sampled g) before found was now = absurd (cc)
+writes size b s (PartBack by ticket block kind from to bytes done) (Counted m) before found was now = absurd (cc)
+writes size b s (PartBack by ticket block kind from to bytes done) (Took t) before found was now = absurd (cc)
+writes size b s (PartBack by ticket block kind from to bytes done) (Lending t m) before found was now = absurd (cc)
+writes size b s (PartBack by ticket block kind from to bytes done) Finished before found was now = sent (in_run block 1 b) done.failed before s was now
 writes size b s (DirectNow by block most) (Refused f) before found was now = was now
 writes size b s (DirectNow by block most) (Sampled g) before found was now = absurd (cc)
 writes size b s (DirectNow by block most) (Counted m) before found was now = was (either (in_run block m b && is_mapped s.kind) (without_page s) s (λ h. h) now)

@@ -17,7 +17,7 @@ use Rattle.range_core.specs.Spots.{blocks_met, in_run, is_met}
 use Rattle.range_core.specs.Stamps.{done_by, stamp_at, stamps_at, stamps_from}
 use Rattle.range_core.specs.WrittenStamps.{StampsOfWrite, WritesAreStamped, one_where_met, written_stamp}
 use Rattle.range_core.specs.declared.entry.Event.{Event}
-use Rattle.range_core.specs.declared.entry.Event.TheVariants.{Sample, Reserve, Unreserve, Attach, Preallocate, Fetch, LendRead, FillBack, Store, StoreZeros, LendWriteback, WrittenBack, DropClean, LendDirect, DirectBack, DirectNow, Wipe, DaxGet, DaxPut, DaxZero}
+use Rattle.range_core.specs.declared.entry.Event.TheVariants.{Sample, Reserve, Unreserve, Attach, Preallocate, Fetch, LendRead, FillBack, Store, StoreZeros, LendWriteback, WrittenBack, DropClean, LendDirect, LendPart, DirectBack, PartBack, DirectNow, Wipe, DaxGet, DaxPut, DaxZero}
 use Rattle.range_core.specs.declared.entry.Outcome.{Outcome}
 use Rattle.range_core.specs.declared.entry.Outcome.TheVariants.{Refused, Sampled, Counted, Took, Lending, Finished}
 use Rattle.range_core.proofs.AfterRun.{in_run-bounds, in_run-false, in_run-true}
@@ -184,6 +184,7 @@ stamped size b (LendWriteback a0 a1) o some = tt
 stamped size b (WrittenBack a0 a1 a2 a3 a4) o some = tt
 stamped size b (DropClean a0 a1) o some = tt
 stamped size b (LendDirect a0 a1 a2 a3 a4) o some = tt
+stamped size b (LendPart a0 a1 a2 a3 a4) o some = tt
 stamped size b (DirectBack by Read ticket block kind pages done) (Refused f) some = tt
 stamped size b (DirectBack by Write ticket block kind pages done) (Refused f) some = tt
 stamped size b (DirectBack by Read ticket block kind pages done) (Sampled g) some = tt
@@ -196,6 +197,12 @@ stamped size b (DirectBack by Read ticket block kind pages done) (Lending t m) s
 stamped size b (DirectBack by Write ticket block kind pages done) (Lending t m) some = tt
 stamped size b (DirectBack by Read ticket block kind pages done) Finished some = tt
 stamped size b (DirectBack by Write ticket block kind pages done) Finished some = λ few. write_stamped by block kind (length pages) done b few
+stamped size b (PartBack by ticket block kind from to bytes done) (Refused f) some = tt
+stamped size b (PartBack by ticket block kind from to bytes done) (Sampled g) some = tt
+stamped size b (PartBack by ticket block kind from to bytes done) (Counted m) some = tt
+stamped size b (PartBack by ticket block kind from to bytes done) (Took t) some = tt
+stamped size b (PartBack by ticket block kind from to bytes done) (Lending t m) some = tt
+stamped size b (PartBack by ticket block kind from to bytes done) Finished some = λ few. write_stamped by block kind 1 done b few
 stamped size b (DirectNow a0 a1 a2) o some = tt
 stamped size b (Wipe by block n) (Refused f) some = tt
 stamped size b (Wipe by block n) (Sampled g) some = tt

@@ -13,7 +13,7 @@ use Rattle.range_core.specs.Spots.{in_run, is_met, overlaid}
 use Rattle.range_core.specs.declared.cell.Cell.{Cell}
 use Rattle.range_core.specs.declared.entry.Entry.{Entry}
 use Rattle.range_core.specs.declared.entry.Event.{Event}
-use Rattle.range_core.specs.declared.entry.Event.TheVariants.{Store, StoreZeros, DirectBack, Wipe, DaxPut, DaxZero}
+use Rattle.range_core.specs.declared.entry.Event.TheVariants.{Store, StoreZeros, DirectBack, PartBack, Wipe, DaxPut, DaxZero}
 use Rattle.range_core.specs.declared.entry.Outcome.{Outcome}
 use Rattle.range_core.specs.declared.entry.Outcome.TheVariants.{Counted, Finished, Took}
 
@@ -32,11 +32,16 @@ content_back Read block kind pages done b content = content
 content_back Write block kind pages done b content =
     if nat_lt b block then content else (if has_arrived kind done (b - block) then unwrap_or (slice_get pages (b - block)) content else content)
 
+-- what a part of one block that came back leaves of the content: its bytes in their place, where the write arrived
+abbrev pub part_back : ℕ → ℕ → Kind → ℕ → ℕ → List ℕ → Done → ℕ → Content → Content
+part_back size block kind from to bytes done b content = if in_run block 1 b then (if has_arrived kind done 0 then overlaid size from to bytes b content else content) else content
+
 -- the content of a block after an event that came about
 abbrev pub content_by : ℕ → ℕ → Event → Outcome → Content → Content
 content_by size b (Store by seen from to bytes) Finished content = if is_met size from to b then overlaid size from to bytes b content else content
 content_by size b (StoreZeros by seen from to) Finished content = if is_met size from to b then overlaid size from to (replicate (to - from) 0) b content else content
 content_by size b (DirectBack by op ticket block kind pages done) Finished content = content_back op block kind pages done b content
+content_by size b (PartBack by ticket block kind from to bytes done) Finished content = part_back size block kind from to bytes done b content
 content_by size b (Wipe by block blocks) (Counted n) content = if in_run block blocks b then zeros size else content
 content_by size b (DaxPut by seen from to bytes) (Took sectors) content = if is_met size from to b then overlaid size from to bytes b content else content
 content_by size b (DaxZero by seen from to) Finished content = if is_met size from to b then overlaid size from to (replicate (to - from) 0) b content else content

@@ -11,12 +11,12 @@ use Rattle.range_core.specs.Spots.{in_run, is_met}
 use Rattle.range_core.specs.declared.cell.Cell.{Cell}
 use Rattle.range_core.specs.declared.entry.Entry.{Entry}
 use Rattle.range_core.specs.declared.entry.Event.{Event}
-use Rattle.range_core.specs.declared.entry.Event.TheVariants.{Reserve, Unreserve, Attach, Preallocate, Fetch, LendRead, FillBack, Store, StoreZeros, LendWriteback, WrittenBack, DropClean, LendDirect, DirectBack, DirectNow, Wipe, DaxPut}
+use Rattle.range_core.specs.declared.entry.Event.TheVariants.{Reserve, Unreserve, Attach, Preallocate, Fetch, LendRead, FillBack, Store, StoreZeros, LendWriteback, WrittenBack, DropClean, LendDirect, LendPart, DirectBack, PartBack, DirectNow, Wipe, DaxPut}
 use Rattle.range_core.specs.declared.entry.Outcome.{Outcome}
 use Rattle.range_core.specs.declared.entry.Outcome.TheVariants.{Sampled, Counted, Took, Lending, Finished}
 use Rattle.range_core.specs.declared.lending.Away.{Away}
 use Rattle.range_core.specs.declared.lending.Lender.{Lender}
-use Rattle.range_core.specs.declared.lending.Lender.TheVariants.{Reading, Writeback, Direct}
+use Rattle.range_core.specs.declared.lending.Lender.TheVariants.{Reading, Writeback, Direct, Part as InPart}
 
 -- of a block: its kind, whether its page has bytes that its sector lacks, which ticket has its sector, and whether it has a page, which is then uptodate
 pub record BlockState : Type 0 where
@@ -56,6 +56,10 @@ lent_clean ticket s = record (lent_for Writeback ticket s) { dirty = false }
 -- lent with a caller's own page, a block has none in the cache
 abbrev pub lent_directly : Tag → Op → ℕ → BlockState → BlockState
 lent_directly by op ticket s = record (lent_for (Direct by op) ticket s) { uptodate = false }
+
+-- the same of a block that was lent for a write of a part of it
+abbrev pub lent_in_part : Tag → ℕ → ℕ → ℕ → BlockState → BlockState
+lent_in_part by from to ticket s = record (lent_for (InPart by from to) ticket s) { uptodate = false }
 
 abbrev pub at_home_again : BlockState → BlockState
 at_home_again s = record s { away = None }
@@ -104,7 +108,9 @@ state_by size b (LendWriteback block most) (Lending ticket n) s = if in_run bloc
 state_by size b (WrittenBack ticket block kind n done) (Counted m) s = if in_run block n b then written_back done.failed s else s
 state_by size b (DropClean block blocks) (Counted n) s = if in_run block blocks b && (not s.dirty && not (is_some s.away)) then without_page s else s
 state_by size b (LendDirect by seen op block n) (Lending ticket m) s = if in_run block n b then lent_directly by op ticket s else s
+state_by size b (LendPart by seen block from to) (Lending ticket m) s = if in_run block 1 b then lent_in_part by from to ticket s else s
 state_by size b (DirectBack by op ticket block kind pages done) Finished s = if in_run block (length pages) b then directly_back op done.failed s else s
+state_by size b (PartBack by ticket block kind from to bytes done) Finished s = if in_run block 1 b then directly_back Write done.failed s else s
 state_by size b (DirectNow by block most) (Counted n) s = if in_run block n b && is_mapped s.kind then without_page s else s
 state_by size b (Wipe by block blocks) (Counted n) s = if in_run block blocks b then becomes_hole s else s
 state_by size b (DaxPut by seen from to bytes) (Took sectors) s = if is_met size from to b then put_through (taken_by b sectors) s else s

@@ -10,12 +10,14 @@ use Rattle.io_model.specs.declared.file.Kind.TheVariants.{Hole}
 use Rattle.turn_cell.specs.Stakes.{total}
 use Rattle.range_core.specs.Cells.{HasPlace, IsBlock}
 use Rattle.range_core.specs.Kinds.{is_mapped}
+use Rattle.range_core.specs.Spots.{bytes_of_part, overlaid}
 use Rattle.range_core.specs.Stakes.{RangeStake, held_by, names}
 use Rattle.range_core.specs.declared.cell.Cell.{Cell}
 use Rattle.range_core.specs.declared.lending.Away.{Away}
 use Rattle.range_core.specs.declared.lending.Held.{Held}
 use Rattle.range_core.specs.declared.lending.Lender.{Lender}
-use Rattle.range_core.specs.declared.lending.Lender.TheVariants.{Reading, Writeback, Direct}
+use Rattle.range_core.specs.declared.lending.Lender.TheVariants.{Reading, Writeback, Direct, Part as InPart}
+use Rattle.range_core.specs.declared.lending.Lent.{Lent}
 
 -- a page has a block's length
 abbrev pub IsWholePage : ℕ → Page → Type 0
@@ -39,9 +41,22 @@ IsLentContent size false content part = content ≡ zeros size
 abbrev pub FitsLender : ℕ → Cell → Content → Part → Lender → Type 0
 FitsLender size c content part Reading = IsTrue (is_mapped c.kind) × (part.sector.bytes ≡ content) × (c.page ≡ None)
 FitsLender size c content part (Direct by op) = IsLentContent size (is_mapped c.kind) content part × (c.page ≡ None)
+FitsLender size c content part (InPart by from to) = IsLentContent size (is_mapped c.kind) content part × (c.page ≡ None)
 FitsLender size c content part Writeback = IsSomeAnd c.page (λ p. c.dirty ≡ false → p.bytes ≡ part.page.bytes)
 
--- a claim on a block that is away: its ticket, what it was lent for, its kind, and its part, which has the sector of that kind
+-- a block that was lent for a write of a part of it was lent alone, and its page has the content around that part
+pub record IsInPart (size b from to : ℕ) (content : Content) (lent : Lent) (page : Page) : Type 0 where
+  pub alone : length lent.parts ≡ 1
+  pub around : page.bytes ≡ overlaid size from to (bytes_of_part size from to b page.bytes) b content
+
+-- of other loans it is not said
+abbrev pub IsAround : ℕ → ℕ → Content → Lent → Page → Lender → Type 0
+IsAround size b content lent page Reading = Unit {0}
+IsAround size b content lent page Writeback = Unit {0}
+IsAround size b content lent page (Direct by op) = Unit {0}
+IsAround size b content lent page (InPart by from to) = IsInPart size b from to content lent page
+
+-- a claim on a block that is away: its ticket, what it was lent for, its kind, and its part, which has the sector of that kind, and around a part that was lent alone the page that the block has
 pub record FitsClaim (size b : ℕ) (c : Cell) (content : Content) (away : Away) (h : Held) : Type 0 where
   pub ticket : h.lent.value.ticket ≡ away.ticket
   pub lender : h.lender ≡ away.lender
@@ -51,6 +66,7 @@ pub record FitsClaim (size b : ℕ) (c : Cell) (content : Content) (away : Away)
   pub sector : IfSome (device_number c.kind) (λ d. IsBlock size d part.sector)
   pub page : IsWholePage size part.page
   pub fits : FitsLender size c content part away.lender
+  pub around : IsAround size b content h.lent.value part.page away.lender
 
 -- each claim that names a block fits it
 abbrev pub FitsAway : ℕ → ℕ → Cell → Content → Option Away → Option Held → Type 0

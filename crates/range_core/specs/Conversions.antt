@@ -6,7 +6,7 @@ use Rattle.range_core.specs.Kinds.{is_mapped}
 use Rattle.range_core.specs.Spots.{in_run, is_met}
 use Rattle.range_core.specs.declared.entry.Entry.{Entry}
 use Rattle.range_core.specs.declared.entry.Event.{Event}
-use Rattle.range_core.specs.declared.entry.Event.TheVariants.{DaxPut, DirectBack, WrittenBack}
+use Rattle.range_core.specs.declared.entry.Event.TheVariants.{DaxPut, DirectBack, PartBack, WrittenBack}
 use Rattle.range_core.specs.declared.entry.Outcome.{Outcome}
 use Rattle.range_core.specs.declared.entry.Outcome.TheVariants.{Counted, Finished, Took}
 
@@ -14,6 +14,7 @@ use Rattle.range_core.specs.declared.entry.Outcome.TheVariants.{Counted, Finishe
 abbrev pub writes_out : ℕ → ℕ → Event → Outcome → Bool
 writes_out size b (WrittenBack ticket block kind n done) (Counted m) = in_run block n b && not done.failed
 writes_out size b (DirectBack by Write ticket block kind pages done) Finished = in_run block (length pages) b && not done.failed
+writes_out size b (PartBack by ticket block kind from to bytes done) Finished = in_run block 1 b && not done.failed
 writes_out size b (DaxPut by seen from to bytes) (Took sectors) = is_met size from to b
 writes_out size b _ _ = false
 

@@ -1,5 +1,5 @@
 -- What the return of blocks that were lent for a caller's own pages does.
-use Rattle.std.specs.Prelude.{◌≡◌, ℕ, ◌+◌, ◌-◌, ◌<◌, Bool, true, false, ◌&&◌, ◌++◌, Option, Some, None, List, [], length, map, slice_get, All}
+use Rattle.std.specs.Prelude.{◌≡◌, ℕ, ◌+◌, ◌-◌, ◌<◌, Bool, true, false, ◌&&◌, ◌++◌, Option, Some, None, List, [], ◌∷◌, length, map, slice_get, All}
 use Rattle.iob_base.specs.Parting.{IsBare, pages_of}
 use Rattle.fault_device.specs.declared.lane.Done.{Done}
 use Rattle.iob_base.specs.declared.part.Part.{Part}
@@ -7,6 +7,7 @@ use Rattle.iob_base.specs.declared.sector.Page.{Page}
 use Rattle.iob_base.specs.declared.stamp.Op.{Op}
 use Rattle.iob_base.specs.declared.stamp.Op.TheVariants.{Read, Write}
 use Rattle.iob_base.specs.declared.stamp.Tag.{Tag}
+use Rattle.io_model.specs.Contents.{Content}
 use Rattle.io_model.specs.declared.file.Kind.{Kind}
 use Rattle.io_model.specs.declared.file.Kind.TheVariants.{Hole}
 use Rattle.range_core.specs.ClaimsView.{ClaimsView, released}
@@ -17,13 +18,16 @@ use Rattle.range_core.specs.Lends.{home_of, written_cell}
 use Rattle.range_core.specs.OnRun.{on_each}
 use Rattle.range_core.specs.RangeTruth.{content_at}
 use Rattle.range_core.specs.RangeView.{RangeView}
-use Rattle.range_core.specs.Returning.{MayComeBack}
+use Rattle.range_core.specs.Returning.{ComesBack, MayComeBack}
+use Rattle.range_core.specs.Spots.{bytes_of_part}
 use Rattle.range_core.specs.declared.cell.Cell.{Cell}
 use Rattle.range_core.specs.declared.entry.Entry.{Entry}
-use Rattle.range_core.specs.declared.entry.Event.TheVariants.{DirectBack}
+use Rattle.range_core.specs.declared.entry.Event.{Event}
+use Rattle.range_core.specs.declared.entry.Event.TheVariants.{DirectBack, PartBack}
 use Rattle.range_core.specs.declared.entry.Outcome.TheVariants.{Finished}
 use Rattle.range_core.specs.declared.lending.Held.{Held}
-use Rattle.range_core.specs.declared.lending.Lender.TheVariants.{Direct}
+use Rattle.range_core.specs.declared.lending.Lender.{Lender}
+use Rattle.range_core.specs.declared.lending.Lender.TheVariants.{Reading, Writeback, Direct, Part as InPart}
 use Rattle.range_core.specs.declared.lending.Lent.{Lent}
 use Rattle.range_core.specs.declared.range.lend_direct.DirectBackRun.{DirectBackRun}
 
@@ -70,11 +74,26 @@ back_in change = lent_in change.back
     lent_in None = record { ticket = 0; block = 0; parts = [] }
     lent_in (Some back) = back
 
+-- what was lent is of this call and direction: blocks for a caller's own pages, or a block for a write of a part of it
+abbrev pub IsLentTo : Tag → Op → Lender → Type 0
+IsLentTo by op Reading = ⊥
+IsLentTo by op Writeback = ⊥
+IsLentTo by op (Direct tag way) = (tag ≡ by) × (way ≡ op)
+IsLentTo by op (InPart tag from to) = (tag ≡ by) × (op ≡ Write)
+
+-- What comes back to a range was so lent, and its blocks are all out on that claim
+pub record ComesDirectly (r : RangeView) (claims : ClaimsView) (by : Tag) (op : Op) (back : Lent) (done : Done) : Type 0 where
+  pub lender : Lender
+  pub comes : ComesBack r claims lender op back done
+  pub lent_to : IsLentTo by op lender
+
 -- The turn may begin: what comes back was lent for the same call in the same direction
 pub record ReadyToReturn (change : DirectBackRun) (opening : RangeView) (claims : ClaimsView) : Type 0 where
   pub back : Lent
   pub back_is : change.back ≡ Some back
-  pub may : MayComeBack opening claims (Direct change.by change.op) change.op back change.done
+  pub lender : Lender
+  pub may : MayComeBack opening claims lender change.op back change.done
+  pub lent_to : IsLentTo change.by change.op lender
 
 -- the pages of mapped blocks that landed in a read have the contents of these blocks
 abbrev pub ReadsContents : RangeView → List Entry → Op → Kind → ℕ → ℕ → List Page → Type 0
@@ -87,10 +106,27 @@ pub record IsNotUptodate (c : Cell) : Type 0 where
   pub page : c.page ≡ None
   pub clean : c.dirty ≡ false
 
-abbrev pub back_entry : ClaimsView → DirectBackRun → Entry
-back_entry claims change = record {
+-- the bytes of the first page that a claim names, as it was lent
+abbrev pub first_bytes : List Page → Content
+first_bytes [] = []
+first_bytes (p ∷ pages) = p.bytes
+
+-- the return of a loan, by what it was lent for: of a part of a block, it tells the bytes of that part alone
+abbrev pub back_event : ℕ → Tag → Op → Lent → Option Held → Done → Lender → Event
+back_event size by op back held done (InPart tag from to) =
+    PartBack by back.ticket back.block (kind_held held) from to (bytes_of_part size from to back.block (first_bytes (pages_held held))) done
+back_event size by op back held done _ = DirectBack by op back.ticket back.block (kind_held held) (map (λ p. p.bytes) (pages_held held)) done
+
+-- what a claim was lent for; a seat without one has lent nothing in part
+abbrev pub lender_held : Option Held → Lender
+lender_held None = Reading
+lender_held (Some held) = held.lender
+
+-- the entry of a return to a range of blocks of this size
+abbrev pub back_entry : ℕ → ClaimsView → DirectBackRun → Entry
+back_entry size claims change = record {
   caller = claims.caller;
-  event = DirectBack change.by change.op (back_in change).ticket (back_in change).block (kind_held claims.held) (map (λ p. p.bytes) (pages_held claims.held)) change.done;
+  event = back_event size change.by change.op (back_in change) claims.held change.done (lender_held claims.held);
   outcome = Finished;
 }
 
@@ -104,4 +140,4 @@ pub record ReturnedDirectly (change later : DirectBackRun) (opening : RangeView)
   pub bare : All IsBare pages
   pub kept : KeepsPages change.op (pages_held claims.held) (pages_of pages)
   pub reads : ReadsContents opening history change.op (kind_held claims.held) (back_in change).block change.done.landed (pages_of pages)
-  pub entry_is : entry ≡ back_entry claims change
+  pub entry_is : entry ≡ back_entry before.geometry.block_size claims change

@@ -5,7 +5,7 @@ use Rattle.iob_base.specs.declared.stamp.Op.TheVariants.{Write}
 use Rattle.range_core.specs.Kinds.{is_unwritten, is_mapped}
 use Rattle.range_core.specs.declared.entry.Entry.{Entry}
 use Rattle.range_core.specs.declared.entry.Event.{Event}
-use Rattle.range_core.specs.declared.entry.Event.TheVariants.{Reserve, Unreserve, Attach, Preallocate, WrittenBack, DirectBack, Wipe, DaxPut}
+use Rattle.range_core.specs.declared.entry.Event.TheVariants.{Reserve, Unreserve, Attach, Preallocate, WrittenBack, DirectBack, PartBack, Wipe, DaxPut}
 use Rattle.range_core.specs.declared.entry.Outcome.{Outcome}
 use Rattle.range_core.specs.declared.entry.Outcome.TheVariants.{Sampled, Counted, Took, Lending, Finished}
 
@@ -24,6 +24,7 @@ has_changed (Attach block blocks) (Took sectors) = nat_lt 0 (length sectors)
 has_changed (Preallocate block blocks) (Took sectors) = nat_lt 0 (length sectors)
 has_changed (WrittenBack ticket block kind n done) (Counted m) = is_unwritten kind && not done.failed
 has_changed (DirectBack by op ticket block kind pages done) Finished = is_unwritten kind && is_write_back op done.failed
+has_changed (PartBack by ticket block kind from to bytes done) Finished = is_unwritten kind && is_write_back Write done.failed
 has_changed (Wipe by block blocks) (Counted n) = nat_lt 0 n
 has_changed (DaxPut by seen from to bytes) (Took sectors) = not (is_mapped seen.extent.kind)
 has_changed _ _ = false

@@ -12,7 +12,7 @@ use Rattle.range_core.specs.Spots.{blocks_met}
 use Rattle.range_core.specs.Stamps.{done_by, stamps_from}
 use Rattle.range_core.specs.declared.entry.Entry.{Entry}
 use Rattle.range_core.specs.declared.entry.Event.{Event}
-use Rattle.range_core.specs.declared.entry.Event.TheVariants.{Fetch, Store, StoreZeros, LendDirect, DirectBack, DirectNow, Wipe, DaxGet, DaxPut, DaxZero}
+use Rattle.range_core.specs.declared.entry.Event.TheVariants.{Fetch, Store, StoreZeros, LendDirect, DirectBack, PartBack, DirectNow, Wipe, DaxGet, DaxPut, DaxZero}
 use Rattle.range_core.specs.declared.entry.Outcome.{Outcome}
 use Rattle.range_core.specs.declared.entry.Outcome.TheVariants.{Counted, Took, Finished}
 
@@ -42,6 +42,7 @@ stamps_by size (Store by seen from to bytes) Finished = stamps_met size by from 
 stamps_by size (StoreZeros by seen from to) Finished = stamps_met size by from to
 stamps_by size (LendDirect by seen op block n) Finished = stamps_from block n (done_by by)
 stamps_by size (DirectBack by op ticket block kind pages done) Finished = direct_stamps by op block kind (length pages) done
+stamps_by size (PartBack by ticket block kind from to bytes done) Finished = direct_stamps by Write block kind 1 done
 stamps_by size (DirectNow by block most) (Counted n) = stamps_from block n (done_by by)
 stamps_by size (Wipe by block n) (Counted changed) = stamps_from block n (done_by by)
 stamps_by size (DaxGet by seen from to) Finished = stamps_met size by from to

@@ -12,12 +12,12 @@ use Rattle.range_core.specs.Spots.{in_run, is_met}
 use Rattle.range_core.specs.declared.cell.Cell.{Cell}
 use Rattle.range_core.specs.declared.entry.Entry.{Entry}
 use Rattle.range_core.specs.declared.entry.Event.{Event}
-use Rattle.range_core.specs.declared.entry.Event.TheVariants.{Sample, Reserve, Unreserve, Attach, Preallocate, Fetch, LendRead, FillBack, Store, StoreZeros, LendWriteback, WrittenBack, DropClean, LendDirect, DirectBack, DirectNow, Wipe, DaxGet, DaxPut, DaxZero}
+use Rattle.range_core.specs.declared.entry.Event.TheVariants.{Sample, Reserve, Unreserve, Attach, Preallocate, Fetch, LendRead, FillBack, Store, StoreZeros, LendWriteback, WrittenBack, DropClean, LendDirect, LendPart, DirectBack, PartBack, DirectNow, Wipe, DaxGet, DaxPut, DaxZero}
 use Rattle.range_core.specs.declared.entry.Outcome.{Outcome}
 use Rattle.range_core.specs.declared.entry.Outcome.TheVariants.{Refused, Sampled, Counted, Took, Lending, Finished}
 use Rattle.range_core.specs.declared.lending.Away.{Away}
 use Rattle.range_core.specs.declared.lending.Lender.{Lender}
-use Rattle.range_core.specs.declared.lending.Lender.TheVariants.{Reading, Writeback, Direct}
+use Rattle.range_core.specs.declared.lending.Lender.TheVariants.{Reading, Writeback, Direct, Part as InPart}
 
 abbrev pub is_same_op : Op → Op → Bool
 is_same_op Read Read = true
@@ -28,6 +28,7 @@ abbrev pub is_same_lender : Lender → Lender → Bool
 is_same_lender Reading Reading = true
 is_same_lender Writeback Writeback = true
 is_same_lender (Direct by op) (Direct tag way) = (by.caller == tag.caller) && ((by.call == tag.call) && is_same_op op way)
+is_same_lender (InPart by from to) (InPart tag low high) = (by.caller == tag.caller) && ((by.call == tag.call) && ((from == low) && (to == high)))
 is_same_lender _ _ = false
 
 -- away on this ticket, to this lender
@@ -60,6 +61,10 @@ abbrev pub is_lendable : Op → Kind → Bool
 is_lendable Read kind = is_mapped kind
 is_lendable Write kind = has_space kind
 
+-- a part of a block is lent for a write where the block has space, is at home and clean, and need not be read first
+abbrev pub is_lendable_in_part : BlockState → Bool
+is_lendable_in_part s = has_space s.kind && (is_settled s && not (is_cold_in s))
+
 -- a sector was taken exactly where this is so
 abbrev pub took_just : Bool → Option ℕ → Bool
 took_just t None = not t
@@ -83,8 +88,10 @@ found_by size b (WrittenBack ticket block kind n done) (Counted m) s = if in_run
 found_by size b (DropClean block blocks) (Counted n) s = true
 found_by size b (LendDirect by seen op block n) (Lending ticket m) s = if in_run block n b then is_lendable op s.kind && is_settled s else true
 found_by size b (LendDirect by seen op block n) Finished s = if in_run block n b then not (is_mapped s.kind) && is_settled s else true
+found_by size b (LendPart by seen block from to) (Lending ticket m) s = if in_run block 1 b then is_lendable_in_part s else true
 found_by size b (DirectBack by op ticket block kind pages done) Finished s =
     if in_run block (length pages) b then is_out ticket (Direct by op) s.away && is_kind (kind_after kind (b - block)) s.kind else true
+found_by size b (PartBack by ticket block kind from to bytes done) Finished s = if in_run block 1 b then is_out ticket (InPart by from to) s.away && is_kind kind s.kind else true
 found_by size b (DirectNow by block most) (Counted n) s = if in_run block n b then is_settled s else true
 found_by size b (Wipe by block blocks) (Counted n) s = if in_run block blocks b then is_at_home s else true
 found_by size b (DaxGet by seen from to) Finished s = if is_met size from to b then is_bare s else true

@@ -10,7 +10,7 @@ use Rattle.range_core.specs.Kinds.{has_space, is_mapped}
 use Rattle.range_core.specs.Spots.{in_run, is_met}
 use Rattle.range_core.specs.declared.entry.Entry.{Entry}
 use Rattle.range_core.specs.declared.entry.Event.{Event}
-use Rattle.range_core.specs.declared.entry.Event.TheVariants.{Store, DirectBack, Wipe, DaxPut}
+use Rattle.range_core.specs.declared.entry.Event.TheVariants.{Store, DirectBack, PartBack, Wipe, DaxPut}
 use Rattle.range_core.specs.declared.entry.Outcome.{Outcome}
 use Rattle.range_core.specs.declared.entry.Outcome.TheVariants.{Counted, Took, Finished}
 
@@ -23,6 +23,7 @@ wipes b _ _ = false
 abbrev pub writes_to : ℕ → ℕ → Event → Outcome → Bool
 writes_to size b (Store by seen from to bytes) Finished = is_met size from to b
 writes_to size b (DirectBack by Write ticket block kind pages done) Finished = in_run block (length pages) b && not done.failed
+writes_to size b (PartBack by ticket block kind from to bytes done) Finished = in_run block 1 b && not done.failed
 writes_to size b (DaxPut by seen from to bytes) (Took sectors) = is_met size from to b
 writes_to size b _ _ = false
 

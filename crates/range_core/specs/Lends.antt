@@ -13,7 +13,7 @@ use Rattle.range_core.specs.declared.cell.Cell.{Cell}
 use Rattle.range_core.specs.declared.lending.Away.{Away}
 use Rattle.range_core.specs.declared.lending.Held.{Held}
 use Rattle.range_core.specs.declared.lending.Lender.{Lender}
-use Rattle.range_core.specs.declared.lending.Lender.TheVariants.{Reading, Writeback, Direct}
+use Rattle.range_core.specs.declared.lending.Lender.TheVariants.{Reading, Writeback, Direct, Part as InPart}
 use Rattle.range_core.specs.declared.lending.Lent.{Lent}
 
 -- a block whose sector is lent: for writeback its page stays and is clean, and where a caller's own page is read or written, it has none
@@ -24,6 +24,7 @@ lent_cell away c = by_lender away.lender
     by_lender Reading = record c { sector = None; away = Some away }
     by_lender Writeback = record c { sector = None; away = Some away; dirty = false }
     by_lender (Direct by op) = record c { sector = None; away = Some away; page = None }
+    by_lender (InPart by from to) = record c { sector = None; away = Some away; page = None }
 
 -- the sector of a block that has it, with a page
 abbrev pub part_of : Cell → Page → Part

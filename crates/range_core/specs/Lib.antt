@@ -37,6 +37,7 @@ pub mod Opening
 pub mod Outcomes
 pub mod Pages
 pub mod Paging
+pub mod LendParts
 pub mod Placing
 pub mod PoolTurns
 pub mod Quiet
@@ -60,6 +61,7 @@ pub mod Surveys
 pub mod Through
 pub mod Tried
 pub mod TriedHistories
+pub mod TriedParts
 pub mod TriedRefusals
 pub mod Wipes
 pub mod WrittenStamps

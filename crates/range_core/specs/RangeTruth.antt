@@ -20,7 +20,7 @@ use Rattle.range_core.specs.declared.cell.Cell.{Cell}
 use Rattle.range_core.specs.declared.entry.Entry.{Entry}
 use Rattle.range_core.specs.declared.lending.Away.{Away}
 use Rattle.range_core.specs.declared.lending.Lender.{Lender}
-use Rattle.range_core.specs.declared.lending.Lender.TheVariants.{Reading, Writeback, Direct}
+use Rattle.range_core.specs.declared.lending.Lender.TheVariants.{Reading, Writeback, Direct, Part as InPart}
 
 -- a range is the run of blocks as which it was opened, and its seat stays at its pool, with its share
 pub record IsSameRun (opening now : RangeView) : Type 0 where
@@ -50,6 +50,7 @@ is_lent_for_writing (Some away) = for_writing away.lender
     for_writing Writeback = true
     for_writing (Direct by Write) = true
     for_writing (Direct by _) = false
+    for_writing (InPart by from to) = true
 
 -- 1 for a block whose kind an event without refusal may change
 abbrev pub pending : Cell → ℕ

@@ -129,6 +129,10 @@ abbrev pub lend_direct_refusal : RangeView → Sample → Op → ℕ → ℕ →
 lend_direct_refusal r seen op b n =
     stale r seen orElse first_that_stops away b (run_of r b n) orElse first_that_stops dirty b (run_of r b n) orElse worn r (will_convert op seen.extent.kind)
 
+-- the same of a write of a part of one block, the block of the first byte. Around the part a mapped block's page is needed
+abbrev pub lend_part_refusal : RangeView → Sample → ℕ → Option EventFault
+lend_part_refusal r seen b = stale r seen orElse at_first away r b orElse at_first cold r b orElse at_first dirty r b orElse worn r (will_convert Write seen.extent.kind)
+
 abbrev pub direct_now_refusal : RangeView → ℕ → Option EventFault
 direct_now_refusal r b = at_first away r b orElse at_first dirty r b
 

@@ -8,7 +8,7 @@ use Rattle.range_core.specs.BlockStates.{BlockState, state_after, state_of, stat
 use Rattle.range_core.specs.EntryCounts.{changes}
 use Rattle.range_core.specs.RangeTruth.{RangeTruth}
 use Rattle.range_core.specs.RangeView.{RangeView}
-use Rattle.range_core.specs.Refusals.{attach_refusal, dax_put_refusal, direct_now_refusal, fetch_refusal, is_cold, lend_direct_refusal, lend_read_refusal, lend_writeback_refusal, preallocate_refusal, reserve_refusal, stale, store_refusal, wipe_refusal}
+use Rattle.range_core.specs.Refusals.{attach_refusal, dax_put_refusal, direct_now_refusal, fetch_refusal, is_cold, lend_direct_refusal, lend_part_refusal, lend_read_refusal, lend_writeback_refusal, preallocate_refusal, reserve_refusal, stale, store_refusal, wipe_refusal}
 use Rattle.range_core.specs.Spots.{in_run}
 use Rattle.range_core.specs.Stakes.{RangeStake}
 use Rattle.range_core.specs.declared.cell.Cell.{Cell}
@@ -45,6 +45,7 @@ pub record AreRefusedAlike (r q : RangeView) : Type 0 where
   pub store : (seen : Sample) (from to : ℕ) → store_refusal r seen from to ≡ store_refusal q seen from to
   pub lend_writeback : (b : ℕ) → lend_writeback_refusal r b ≡ lend_writeback_refusal q b
   pub lend_direct : (seen : Sample) (op : Op) (b n : ℕ) → lend_direct_refusal r seen op b n ≡ lend_direct_refusal q seen op b n
+  pub lend_part : (seen : Sample) (b : ℕ) → lend_part_refusal r seen b ≡ lend_part_refusal q seen b
   pub direct_now : (b : ℕ) → direct_now_refusal r b ≡ direct_now_refusal q b
   pub wipe : (b n : ℕ) → wipe_refusal r b n ≡ wipe_refusal q b n
   pub dax_put : (seen : Sample) → dax_put_refusal r seen ≡ dax_put_refusal q seen

@@ -17,6 +17,12 @@ blocks_met size from to = (to - 1) / size + 1 - from / size
 abbrev pub is_met : ℕ → ℕ → ℕ → ℕ → Bool
 is_met size from to b = meets size (span from to) b
 
+-- the bytes of a block's content that lie from one place of the file up to another
+abbrev pub bytes_of_part : ℕ → ℕ → ℕ → ℕ → Content → List ℕ
+bytes_of_part size from to b content =
+    let part = part_in size (span from to) b in
+    bytes_between (part.from - b * size) (part.to - b * size) content
+
 -- a block's content with its part of the bytes that go from one place up to another
 abbrev pub overlaid : ℕ → ℕ → ℕ → List ℕ → ℕ → Content → Content
 overlaid size from to bytes b content =

@@ -7,14 +7,14 @@ use Rattle.iob_base.specs.declared.sector.Page.{Page}
 use Rattle.io_model.specs.declared.file.Kind.{Kind}
 use Rattle.io_model.specs.declared.file.Kind.TheVariants.{Hole, Delalloc, Unwritten, Mapped}
 use Rattle.range_core.specs.RangeView.{RangeView}
-use Rattle.range_core.specs.Refusals.{reserve_refusal, attach_refusal, preallocate_refusal, fetch_refusal, store_refusal, lend_read_refusal, lend_writeback_refusal, lend_direct_refusal, direct_now_refusal, wipe_refusal, dax_put_refusal}
+use Rattle.range_core.specs.Refusals.{reserve_refusal, attach_refusal, preallocate_refusal, fetch_refusal, store_refusal, lend_read_refusal, lend_writeback_refusal, lend_direct_refusal, lend_part_refusal, direct_now_refusal, wipe_refusal, dax_put_refusal}
 use Rattle.range_core.specs.Space.{SpaceClaims}
 use Rattle.space_pool.specs.declared.entry.PoolEntry.{PoolEntry}
 use Rattle.turn_cell.specs.Views.{SeatView, first_seat}
 use Rattle.range_core.specs.declared.cell.Cell.{Cell}
 use Rattle.range_core.specs.declared.fault.EventFault.TheVariants.{Stale, Away, Cold, Settled, Unattached, Dirty, Worn}
 use Rattle.range_core.specs.declared.lending.Lender.{Lender}
-use Rattle.range_core.specs.declared.lending.Lender.TheVariants.{Reading, Writeback}
+use Rattle.range_core.specs.declared.lending.Lender.TheVariants.{Reading, Writeback, Part as InPart}
 use Rattle.range_core.specs.declared.sample.Sample.{Sample}
 
 abbrev seat : SeatView PoolEntry
@@ -91,6 +91,20 @@ DirectLendsAreRefusedInOrder =
     × (lend_direct_refusal (range WORN (paged (Unwritten 7) true ∷ [])) (seen WORN (Unwritten 7)) Write 0 1 ≡ Some (Dirty 0))
     × (lend_direct_refusal (range WORN (bare (Unwritten 7) ∷ [])) (seen WORN (Unwritten 7)) Write 0 1 ≡ Some (Worn WORN))
     × (lend_direct_refusal (range WORN (bare (Unwritten 7) ∷ [])) (seen WORN (Unwritten 7)) Read 0 1 ≡ None) × (lend_direct_refusal (range WORN (paged (Mapped 7) false ∷ [])) (seen WORN (Mapped 7)) Write 0 1 ≡ None)
+
+-- a write of a part of a block is refused for its sample first, then where the block is away, where it has to be read first, where it is dirty, and for want of cookies where it was never written
+abbrev pub PartLendsAreRefusedInOrder : Type 0
+PartLendsAreRefusedInOrder =
+    (lend_part_refusal (range 2 (lent (Mapped 7) Reading ∷ [])) (seen 1 (Mapped 7)) 0 ≡ Some (Stale 1 2)) × (lend_part_refusal (range 0 (lent (Mapped 7) Reading ∷ [])) (seen 0 (Mapped 7)) 0 ≡ Some (Away 0 5))
+    × (lend_part_refusal (range 0 (record (bare (Mapped 7)) { dirty = true } ∷ [])) (seen 0 (Mapped 7)) 0 ≡ Some (Cold 0))
+    × (lend_part_refusal (range WORN (paged (Unwritten 7) true ∷ [])) (seen WORN (Unwritten 7)) 0 ≡ Some (Dirty 0)) × (lend_part_refusal (range WORN (bare (Unwritten 7) ∷ [])) (seen WORN (Unwritten 7)) 0 ≡ Some (Worn WORN))
+    × (lend_part_refusal (range 0 (bare (Unwritten 7) ∷ [])) (seen 0 (Unwritten 7)) 0 ≡ None) × (lend_part_refusal (range WORN (paged (Mapped 7) false ∷ [])) (seen WORN (Mapped 7)) 0 ≡ None)
+
+-- a block that is lent in part hinders what needs its page
+abbrev pub LentPartHinders : Type 0
+LentPartHinders =
+    (fetch_refusal (range 0 (lent (Mapped 7) (InPart (record { caller = 3; call = 9 }) 1 3) ∷ [])) 1 2 ≡ Some (Away 0 5))
+    × (store_refusal (range 0 (lent (Mapped 7) (InPart (record { caller = 3; call = 9 }) 1 3) ∷ [])) (seen 0 (Mapped 7)) 1 2 ≡ Some (Away 0 5))
 
 -- bytes for sectors are refused for their sample first, and then for want of cookies where they would map blocks
 abbrev pub PutsAreRefusedInOrder : Type 0

@@ -11,7 +11,7 @@ use Rattle.range_core.specs.Spots.{in_run, is_met}
 use Rattle.range_core.specs.Stamps.{done_by, stamps_at}
 use Rattle.range_core.specs.declared.entry.Entry.{Entry}
 use Rattle.range_core.specs.declared.entry.Event.{Event}
-use Rattle.range_core.specs.declared.entry.Event.TheVariants.{Store, StoreZeros, DirectBack, Wipe, DaxPut, DaxZero}
+use Rattle.range_core.specs.declared.entry.Event.TheVariants.{Store, StoreZeros, DirectBack, PartBack, Wipe, DaxPut, DaxZero}
 use Rattle.range_core.specs.declared.entry.Outcome.{Outcome}
 use Rattle.range_core.specs.declared.entry.Outcome.TheVariants.{Counted, Took, Finished}
 
@@ -28,6 +28,7 @@ abbrev pub StampsOfWrite : ℕ → ℕ → Event → Outcome → List Stamp → 
 StampsOfWrite size b (Store by seen from to bytes) Finished left = from < to → left ≡ one_where_met (is_met size from to b) (done_by by)
 StampsOfWrite size b (StoreZeros by seen from to) Finished left = from < to → left ≡ one_where_met (is_met size from to b) (done_by by)
 StampsOfWrite size b (DirectBack by Write ticket block kind pages done) Finished left = done.landed ≤ length pages → left ≡ one_where_met (in_run block (length pages) b) (written_stamp by kind done (b - block))
+StampsOfWrite size b (PartBack by ticket block kind from to bytes done) Finished left = done.landed ≤ 1 → left ≡ one_where_met (in_run block 1 b) (written_stamp by kind done (b - block))
 StampsOfWrite size b (Wipe by block n) (Counted changed) left = left ≡ one_where_met (in_run block n b) (done_by by)
 StampsOfWrite size b (DaxPut by seen from to bytes) (Took sectors) left = from < to → left ≡ one_where_met (is_met size from to b) (done_by by)
 StampsOfWrite size b (DaxZero by seen from to) Finished left = from < to → left ≡ one_where_met (is_met size from to b) (done_by by)

@@ -1,4 +1,4 @@
-//! The bytes of sectors are written in place.
+//! The bytes of sectors, and of pages, are written in place.
 ghost use Rattle.std.specs.Prelude.{◌≡◌, ◌+◌, ◌≤◌, length};
 ghost use Rattle.io_model.specs.Contents.{zeros};
 ghost use Rattle.io_model.specs.Effects.{overlay};
@@ -43,7 +43,8 @@ pub(crate) fn write_sector(sector: &mut Sector, part: BlockPart, iov: &mut IovIt
     write_bytes(sector.bytes_mut(), part, iov);
 }
 
-fn blank_bytes(bytes: &mut [u8])
+/// Makes zeros of all these bytes.
+pub(crate) fn blank_bytes(bytes: &mut [u8])
     ensures { bytes.new ≡ zeros (length bytes.old) }
 {
     bytes.fill(0);

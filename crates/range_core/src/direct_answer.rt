@@ -18,3 +18,10 @@ pub struct DirectRefused {
     pub fault: EventFault,
     pub pages: Parts,
 }
+
+/// Why no block was lent for a write of a part of it, and the list of the page, as it was handed in.
+#[derive(Drop)]
+pub struct PartRefused {
+    pub fault: EventFault,
+    pub page: Parts,
+}

@@ -6,7 +6,8 @@ use io_model::Kind;
 use iob_base::{Items, Op, Tag};
 
 /// An event with its arguments. Blocks are those of the file, and bytes are places in it. What comes back from a write of
-/// the cache's pages, or from a transfer of a caller's own, is told with its ticket and the kind of its first block.
+/// the cache's pages, or from a transfer of a caller's own, is told with its ticket and the kind of its first block. A
+/// write of a part of a block is told with the block.
 pub enum Event {
     /// A look at the extent from a block on, of at most `most` blocks.
     Sample {
@@ -92,6 +93,14 @@ pub enum Event {
         block: u64,
         blocks: u64,
     },
+    /// A block was to be lent for a write from one place in it up to another.
+    LendPart {
+        by: Tag,
+        seen: Sample,
+        block: u64,
+        from: u64,
+        to: u64,
+    },
     /// A transfer of a caller's own pages came back, with the bytes of the pages.
     DirectBack {
         by: Tag,
@@ -100,6 +109,17 @@ pub enum Event {
         block: u64,
         kind: Kind,
         pages: Items<Items<u8>>,
+        done: Done,
+    },
+    /// A write of a part of a block came back, with the bytes of that part alone.
+    PartBack {
+        by: Tag,
+        ticket: u64,
+        block: u64,
+        kind: Kind,
+        from: u64,
+        to: u64,
+        bytes: Items<u8>,
         done: Done,
     },
     /// Blocks from one on were to be read at once into as many pages of a caller's own, or fewer.

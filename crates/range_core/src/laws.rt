@@ -8,7 +8,8 @@ ghost use Rattle.range_core.specs.Quiet.{RefusedIsQuiet};
 ghost use Rattle.range_core.specs.RefusedAlike.{FilledIsWarm, HistoryRefuses};
 ghost use Rattle.range_core.specs.StampedChanges.{OnlyStampsChange};
 ghost use Rattle.range_core.specs.TriedHistories.{NothingAwayIsMet, OnlyLentComesBack, ReadCanHappen, RefusalsSayNothing, SectorsAreTakenOnce, StatesHinder, WriteCanHappen};
-ghost use Rattle.range_core.specs.TriedRefusals.{StaleComesFirst, AwayComesBeforeCold, WritebackHindersNoStore, WholeBlocksAreNotCold, SettledIsNotLent, DirtyIsNotReadDirectly, WornChangesNoKind, DirectLendsAreRefusedInOrder, PutsAreRefusedInOrder};
+ghost use Rattle.range_core.specs.TriedParts.{FailedPartWriteMisses, LentPartIsAway, OnlyThatPartComesBack, PartWriteKeepsAround, PartWriteMaps, PartsCanBeWritten, PartsNeedTheirBlock};
+ghost use Rattle.range_core.specs.TriedRefusals.{StaleComesFirst, AwayComesBeforeCold, WritebackHindersNoStore, WholeBlocksAreNotCold, SettledIsNotLent, DirtyIsNotReadDirectly, WornChangesNoKind, DirectLendsAreRefusedInOrder, LentPartHinders, PartLendsAreRefusedInOrder, PutsAreRefusedInOrder};
 ghost use Rattle.range_core.specs.Tried.{StoreLeavesZerosAround, WritebackMaps, FailedWritebackMakesDirty, StoreMeanwhileStaysDirty, WipeLeavesAHole, StoreStampsEachBlock, FailedWriteLandsAPrefix, FailedWriteLeavesUnwritten, FailedReadMisses, PutLeavesZerosAround};
 ghost use Rattle.range_core.specs.WrittenStamps.{WritesAreStamped};
 
@@ -101,6 +102,15 @@ pub fn failed_read_misses()
     ensures { FailedReadMisses }
 {}
 
+/// A write of a part of a block changes that part alone, maps a block that was never written, with zeros around the part,
+/// and leaves the block as it was where it failed. While it is out, the block has no page.
+pub fn part_write_keeps_around()
+    ensures around { PartWriteKeepsAround }
+    ensures maps { PartWriteMaps }
+    ensures failed { FailedPartWriteMisses }
+    ensures away { LentPartIsAway }
+{}
+
 /// Bytes that go straight to a hole leave zeros around them, and the block is mapped.
 pub fn put_leaves_zeros_around()
     ensures { PutLeavesZerosAround }
@@ -113,12 +123,14 @@ pub fn refusals_have_an_order()
     ensures away { AwayComesBeforeCold }
     ensures worn { WornChangesNoKind }
     ensures direct { DirectLendsAreRefusedInOrder }
+    ensures part { PartLendsAreRefusedInOrder }
     ensures put { PutsAreRefusedInOrder }
 {}
 
 /// A block hinders an event only where the event needs what it lacks.
 pub fn only_what_hinders_refuses()
     ensures writeback { WritebackHindersNoStore }
+    ensures part { LentPartHinders }
     ensures whole { WholeBlocksAreNotCold }
     ensures settled { SettledIsNotLent }
     ensures dirty { DirtyIsNotReadDirectly }
@@ -139,12 +151,15 @@ pub fn sectors_last()
 pub fn lawful_can_happen()
     ensures write { WriteCanHappen }
     ensures read { ReadCanHappen }
+    ensures part { PartsCanBeWritten }
     ensures refused { RefusalsSayNothing }
 {}
 
 /// Histories in which one did not.
 pub fn unlawful_cannot_happen()
     ensures lent { OnlyLentComesBack }
+    ensures parts { OnlyThatPartComesBack }
+    ensures needs { PartsNeedTheirBlock }
     ensures away { NothingAwayIsMet }
     ensures taken { SectorsAreTakenOnce }
     ensures states { StatesHinder }

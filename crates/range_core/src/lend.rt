@@ -25,12 +25,12 @@ fn take_sector(cell: &mut Cell, away: Away) -> Sector
     match away.lender {
         Lender::Reading => {}
         Lender::Writeback => cell.dirty = false,
-        Lender::Direct { .. } => cell.page = None,
+        Lender::Direct { .. } | Lender::Part { .. } => cell.page = None,
     }
     sector
 }
 
-fn lend_part(cell: &mut Cell, part: &mut Part, away: Away)
+fn lend_one(cell: &mut Cell, part: &mut Part, away: Away)
     requires { IsSome cell.old.sector }
     ensures cell { cell.new ≡ lent_cell away cell.old }
     ensures part { part.new ≡ part_of cell.old part.old.page }
@@ -47,7 +47,7 @@ fn lend_run(cells: &mut Vec<Cell>, low: usize, parts: &mut [Part], away: Away)
 {
     let mut at = low;
     for part in parts.iter_mut() {
-        lend_part(&mut cells[at], part, away);
+        lend_one(&mut cells[at], part, away);
         at += 1;
     }
 }

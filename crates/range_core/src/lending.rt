@@ -3,13 +3,14 @@ use io_model::Kind;
 use iob_base::{Op, Parts, Tag};
 use std::snapshot::Snapshot;
 
-/// The event that lent a block: a read of it into the page cache, a write of its dirty page, or a transfer of a
-/// caller's own pages.
+/// The event that lent a block: a read of it into the page cache, a write of its dirty page, a transfer of a caller's own
+/// pages, or a write of a caller's own page of which the bytes from one place of the file up to another are the call's.
 #[derive(Clone, Copy)]
 pub enum Lender {
     Reading,
     Writeback,
     Direct { by: Tag, op: Op },
+    Part { by: Tag, from: u64, to: u64 },
 }
 
 /// Which ticket has a block's sector, and what for.

@@ -51,7 +51,7 @@ mod stops;
 pub use cell::Cell;
 pub use chronicle::{NextCaller, SameCaller, WithLoan};
 pub use claims::Claims;
-pub use direct_answer::{Direct, DirectRefused};
+pub use direct_answer::{Direct, DirectRefused, PartRefused};
 pub use end::RangeEnd;
 pub use entry::{Entry, Event, Outcome};
 pub use fault::EventFault;
@@ -60,16 +60,17 @@ pub use laws::{
     closed_is_home, failed_read_misses, failed_write_lands_a_prefix, filled_is_warm,
     history_refuses, lawful_can_happen, loan_comes_home, loan_is_claimed, mapped_was_written,
     only_stamps_change, only_what_hinders_refuses, only_writes_map, others_stay_claimed,
-    own_entries_alone, put_leaves_zeros_around, refusals_have_an_order, refused_is_quiet,
-    return_frees_claim, sectors_last, store_leaves_zeros_around, store_stamps_each_block,
-    unlawful_cannot_happen, wipe_leaves_a_hole, writeback_maps, writes_are_stamped,
+    own_entries_alone, part_write_keeps_around, put_leaves_zeros_around, refusals_have_an_order,
+    refused_is_quiet, return_frees_claim, sectors_last, store_leaves_zeros_around,
+    store_stamps_each_block, unlawful_cannot_happen, wipe_leaves_a_hole, writeback_maps,
+    writes_are_stamped,
 };
 pub use lending::{Away, Held, Lender, Lent};
 pub use loan_answer::{LendRefused, Written};
 pub use range::{
     AttachRun, DaxGetRun, DaxPutRun, DaxZeroRun, DirectBackRun, DirectNowRun, DropCleanRun,
-    FetchRun, FillBackRun, FindDueRun, Found, LendDirectRun, LendReadRun, LendWritebackRun,
-    PreallocateRun, Range, ReserveRun, SampleRun, StoreRun, StoreZerosRun, Survey, SurveyRun,
-    UnreserveRun, WipeRun, WrittenBackRun,
+    FetchRun, FillBackRun, FindDueRun, Found, LendDirectRun, LendPartRun, LendReadRun,
+    LendWritebackRun, PreallocateRun, Range, ReserveRun, SampleRun, StoreRun, StoreZerosRun,
+    Survey, SurveyRun, UnreserveRun, WipeRun, WrittenBackRun,
 };
 pub use sample::Sample;

@@ -61,10 +61,12 @@ impl Hinders for IsAwayWithPage {
         let away = cell.away?;
         match away.lender {
             Lender::Writeback => None,
-            Lender::Reading | Lender::Direct { .. } => Some(EventFault::Away {
-                block,
-                ticket: away.ticket,
-            }),
+            Lender::Reading | Lender::Direct { .. } | Lender::Part { .. } => {
+                Some(EventFault::Away {
+                    block,
+                    ticket: away.ticket,
+                })
+            }
         }
     }
 }

@@ -12,6 +12,8 @@ mod range_ground;
 #[cfg(test)]
 mod range_loans;
 #[cfg(test)]
+mod range_parts;
+#[cfg(test)]
 mod range_returns;
 #[cfg(test)]
 mod range_runs;

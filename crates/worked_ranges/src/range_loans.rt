@@ -1,10 +1,12 @@
 //! A caller's turns that lend blocks, and those that bring them back after a transfer.
-ghost use Rattle.std.specs.Prelude.{◌≡◌, ◌+◌, ◌<◌, ◌≤◌, [], Some, None, All, IfOk, OnErr, length, nat_lt};
+ghost use Rattle.std.specs.Prelude.{◌≡◌, ◌+◌, ◌/◌, ◌<◌, ◌≤◌, [], true, Some, None, All, IfOk, OnErr, length, nat_lt};
 ghost use Rattle.fault_device.specs.Transfer.{CanTransfer};
 ghost use Rattle.iob_base.specs.Parting.{IsBare, pages_of};
 ghost use Rattle.range_core.specs.BlockTruth.{IsWholePage};
 ghost use Rattle.range_core.specs.LendDirects.{CanTake};
+ghost use Rattle.range_core.specs.Refusals.{covers_in_part};
 ghost use Rattle.range_core.specs.Returning.{parts_after};
+ghost use Rattle.range_core.specs.Spots.{blocks_met};
 ghost use Rattle.worked_ranges.specs.SmallRanges.{IsWholeAndBare, Stands};
 
 use crate::range_caller::Caller;
@@ -13,7 +15,8 @@ use io_model::{Extent, Kind};
 use iob_base::{Items, Op, Page, Parts, Tag};
 use range_core::{
     Direct, DirectBackRun, DirectNowRun, DirectRefused, EventFault, FillBackRun, LendDirectRun,
-    LendReadRun, LendRefused, LendWritebackRun, Lender, Lent, WrittenBackRun,
+    LendPartRun, LendReadRun, LendRefused, LendWritebackRun, Lender, Lent, PartRefused,
+    WrittenBackRun,
 };
 use std::alloc::{AllocError, Global};
 use std::process::Abort;
@@ -262,6 +265,75 @@ impl<'a, R: Abort + Wait> Caller<'a, R> {
         Ok(self.lend_pages(op, block, pages))
     }
 
+    // Bytes of one block, but not all of them.
+    fn expect_part(&self, from: u64, to: u64)
+        requires within { to ≤ 96 }
+        requires some { from < to }
+        ensures one { blocks_met 16 from to ≡ 1 }
+        ensures part { covers_in_part 16 from to (from / 16) ≡ true }
+    {
+        assert_eq!(self.rt; (to - 1) / 16, from / 16, "bytes of one block");
+        if from / 16 * 16 < from {
+            return;
+        }
+        assert!(self.rt; to < from / 16 * 16 + 16, "not all of the block");
+    }
+
+    // The turn that asks for a block of the sample for a write of a part of it. What is lent is kept.
+    fn part_turn(&mut self, from: u64, to: u64, page: Parts) -> Result<Loan, Refused>
+        requires stands { Stands self.old.ground.now.cell self.old.seat self.old.sample self.old.loan }
+        requires one { length (pages_of page) ≡ 1 }
+        requires whole { All (IsWholePage 16) (pages_of page) }
+        requires bare { All IsBare page }
+        ensures stands { Stands self.new.ground.now.cell self.new.seat self.new.sample self.new.loan }
+    {
+        let seen = self.seen();
+        self.expect_cached();
+        self.expect_free();
+        self.expect_bytes(from, to);
+        self.expect_part(from, to);
+        self.expect_covered(seen.extent, from, to);
+        self.expect_target(Op::Write, seen.extent.kind);
+        let mut change = LendPartRun {
+            by: self.by,
+            seen,
+            from,
+            to,
+            page: Some(page),
+        };
+        match self.ground.cell.turn(self.rt, &mut self.seat, &mut change) {
+            Ok(lent) => {
+                self.expect_loan(&lent);
+                let loan = ticket_of(&lent);
+                self.loan = Some((
+                    Lender::Part {
+                        by: self.by,
+                        from,
+                        to,
+                    },
+                    lent,
+                ));
+                Ok(loan)
+            }
+            Err(PartRefused { fault, page }) => Err(Refused { fault, pages: page }),
+        }
+    }
+
+    /// Asks for a block of the sample for a write of a part of it, from a page that is filled with this byte, and keeps what
+    /// is lent.
+    pub(crate) fn lend_part(
+        &mut self,
+        from: u64,
+        to: u64,
+        fill: u8,
+    ) -> Result<Result<Loan, Refused>, AllocError>
+        requires stands { Stands self.old.ground.now.cell self.old.seat self.old.sample self.old.loan }
+        ensures stands { Stands self.new.ground.now.cell self.new.seat self.new.sample self.new.loan }
+    {
+        let page = list_of(self.alloc, &[fill])?;
+        Ok(self.part_turn(from, to, page))
+    }
+
     // The turn that brings blocks back which were lent for a read into the cache, after the read.
     fn fill_back(&mut self, lane: &mut Lane, mut back: Lent) -> Done
         requires free { self.old.loan ≡ None }
@@ -317,6 +389,27 @@ impl<'a, R: Abort + Wait> Caller<'a, R> {
         }
     }
 
+    // The turn that brings a block back which was lent for a write of a part of it, after the write.
+    fn part_back(&mut self, lane: &mut Lane, by: Tag, from: u64, to: u64, mut back: Lent) -> Back
+        requires free { self.old.loan ≡ None }
+        requires stands { Stands self.old.ground.now.cell self.old.seat self.old.sample (Some (Lender.Part by from to, back)) }
+        ensures stands { Stands self.new.ground.now.cell self.new.seat self.new.sample self.new.loan }
+    {
+        let done = carry(lane, Op::Write, &mut back);
+        let mut change = DirectBackRun {
+            by,
+            op: Op::Write,
+            back: Some(back),
+            done,
+        };
+        let pages = self.ground.cell.turn(self.rt, &mut self.seat, &mut change);
+        Back {
+            done,
+            written: None,
+            pages: Some(pages),
+        }
+    }
+
     /// Makes the transfer of what was lent, and brings it back.
     pub(crate) fn bring_back(&mut self, lane: &mut Lane) -> Back
         requires stands { Stands self.old.ground.now.cell self.old.seat self.old.sample self.old.loan }
@@ -333,6 +426,7 @@ impl<'a, R: Abort + Wait> Caller<'a, R> {
             },
             Lender::Writeback => self.write_back(lane, back),
             Lender::Direct { by, op } => self.direct_back(lane, by, op, back),
+            Lender::Part { by, from, to } => self.part_back(lane, by, from, to, back),
         }
     }
 

@@ -28,6 +28,8 @@ pub(crate) enum Step {
     LendWritebackRun(u64, u64),
     /// A page for each block from one on, filled with these bytes.
     LendDirect(Op, u64, &'static [u8]),
+    /// A write of bytes from one place up to another, from a page that is filled with this byte.
+    LendPart(u64, u64, u8),
     /// The transfer of what was lent, and its return.
     Back,
     /// The same pages.
@@ -58,6 +60,7 @@ impl<'a, R: Abort + Wait> Caller<'a, R> {
             Step::LendReadRun(block, blocks) => self.lend_cold(block, blocks).told(alloc),
             Step::LendWritebackRun(block, blocks) => self.lend_dirty(block, blocks).told(alloc),
             Step::LendDirect(op, block, fills) => self.lend_direct(op, block, fills)?.told(alloc),
+            Step::LendPart(from, to, fill) => self.lend_part(from, to, fill)?.told(alloc),
             Step::Back => self.bring_back(lane).told(alloc),
             Step::DirectNowRun(block, fills) => self.read_now(lane, block, fills)?.told(alloc),
             Step::DaxGet(from, to) => self.dax_get(lane, from, to)?.told(alloc),

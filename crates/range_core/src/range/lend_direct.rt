@@ -147,12 +147,11 @@ fn stamp_back(log: &mut StampLog, by: Tag, op: Op, block: u64, kind: Kind, n: us
 
 impl Range {
     ghost use Rattle.range_core.specs.ClaimsView.{released};
-    ghost use Rattle.range_core.specs.DirectBacks.{KeepsPages, after_direct_back, kind_held, pages_held};
+    ghost use Rattle.range_core.specs.DirectBacks.{ComesDirectly, KeepsPages, after_direct_back, kind_held, pages_held};
     ghost use Rattle.range_core.specs.LendDirects.{CanLendDirect, ClaimsAnswer, GoesOut, after_lend_direct, direct_answer};
     ghost use Rattle.range_core.specs.Lookups.{first_kind};
     ghost use Rattle.range_core.specs.RangeView.{LiesAt, cells_from};
     ghost use Rattle.range_core.specs.Refusals.{lend_direct_refusal};
-    ghost use Rattle.range_core.specs.Returning.{ComesBack};
     ghost use Rattle.range_core.specs.declared.fault.EventFault.TheVariants.{NoMemory};
 
     /// What hinders a loan of `n` blocks for a caller's own pages.
@@ -234,10 +233,11 @@ impl Range {
         Ok(Direct::Lent(lend_blocks(&mut self.cells, low, block, pages, away, claims)))
     }
 
-    /// Brings blocks home that were lent for a caller's own pages, and answers the list of these pages, in order and with
-    /// blank sectors. A write that did not
+    /// Brings blocks home that were lent by `lend_direct` for the same tag and op, or, for a write, a block that `lend_part`
+    /// lent for the same tag, and answers the list of these pages, in order and with blank sectors. A write that did not
     /// fail makes its blocks mapped. Each block is stamped: done; or, of a transfer that failed, landed for the first
-    /// mapped blocks of a write, up to where it came, and missed for all others. It has no refusal and takes no memory.
+    /// mapped blocks of a write, up to where it came, and missed for all others. Of a block that was lent in part, the
+    /// content changes in that part alone. It has no refusal and takes no memory.
     pub fn direct_back(
         &mut self,
         claims: &mut Claims,
@@ -246,7 +246,7 @@ impl Range {
         back: Lent,
         done: Done,
     ) -> Parts
-        requires comes { ComesBack self.old claims.old (Lender.Direct by op) op back done }
+        requires comes { ComesDirectly self.old claims.old by op back done }
         requires cookie { self.old.cookie ≤ WORN + 65536 }
         ensures state { self.new ≡ after_direct_back self.old by op (kind_held claims.old.held) back done }
         ensures claims { claims.new ≡ released claims.old }
@@ -300,8 +300,8 @@ impl Change<Range> for LendDirectRun {
     }
 }
 
-/// The turn of `Range::direct_back`, which brings blocks home that were lent with a caller's own pages. It answers the
-/// pages.
+/// The turn of `Range::direct_back`, which brings blocks home that were lent with a caller's own pages, or for a write of a
+/// part. It answers the pages.
 #[derive(Drop)]
 pub struct DirectBackRun {
     pub by: Tag,

@@ -22,8 +22,8 @@ loop-part-init c =
       parts = ap (λ n. parts_of (drop n c.args.cells.now.items) (pages_of c.args.parts.now)) z;
     }
 
-pub lend_part-requires : goal.lend_part-requires
-lend_part-requires c =
+pub lend_one-requires : goal.lend_one-requires
+lend_one-requires c =
     let low : ℕ = c.args.low in
     let i : ℕ = c.loop-part.part-index in
     let first : List Cell = c.args.cells.now.items in
@@ -53,17 +53,17 @@ loop-part-preserved c =
     let there : at < length now = omega (arith, inv.at, inv.many, c.args.cells.now.ok.0, c.loop-part.cells.ok.0, c.requires.within) in
     let same : get_or parts i part ≡ get_or initial i part = same_item parts initial i part inv.rest in
     let page : Page = (get_or initial i part).page in
-    let made : c.lend_part.new.part ≡ part_of cell page = c.lend_part.ensures.part ∙ ap (λ (q : Part). part_of cell q.page) same in
+    let made : c.lend_one.new.part ≡ part_of cell page = c.lend_one.ensures.part ∙ ap (λ (q : Part). part_of cell q.page) same in
     let pages : pages_of (drop i initial) ≡ page ∷ pages_of (drop (i + 1) initial) = ap pages_of (drop_more initial i part less) in
     let known : take i parts ++ parts_of (drop at now) (pages_of (drop i initial)) ≡ parts_of (drop low first) (pages_of initial) =
     ap (λ n. take i parts ++ parts_of (drop n now) (pages_of (drop i initial))) inv.at ∙ inv.parts in
     record {
       at = omega (arith, inv.at);
-      cells = ap (λ n. set now n c.lend_part.new.cell) inv.at
-          ∙ each_more (λ _. lent_cell c.args.away) low i first now cell c.lend_part.new.cell inv.cells (c.index_mut.ensures.value ∙ ap (λ n. get_or now n cell) inv.at) within c.lend_part.ensures.cell;
+      cells = ap (λ n. set now n c.lend_one.new.cell) inv.at
+          ∙ each_more (λ _. lent_cell c.args.away) low i first now cell c.lend_one.new.cell inv.cells (c.index_mut.ensures.value ∙ ap (λ n. get_or now n cell) inv.at) within c.lend_one.ensures.cell;
       many = inv.many;
-      long = length-set parts i c.lend_part.new.part ∙ inv.long;
-      rest = drop-set-lt (i + 1) parts i c.lend_part.new.part (omega arith) ∙ same_rest parts initial i inv.rest;
-      parts = parts_of-more now at low i cell c.lend_part.new.cell (pages_of (drop i initial)) (pages_of (drop (i + 1) initial)) page (take i parts) (take (i + 1) (set parts i c.lend_part.new.part)) _ c.lend_part.new.part
-          inv.at there c.index_mut.ensures.value made pages (take_more_set parts i c.lend_part.new.part here) known;
+      long = length-set parts i c.lend_one.new.part ∙ inv.long;
+      rest = drop-set-lt (i + 1) parts i c.lend_one.new.part (omega arith) ∙ same_rest parts initial i inv.rest;
+      parts = parts_of-more now at low i cell c.lend_one.new.cell (pages_of (drop i initial)) (pages_of (drop (i + 1) initial)) page (take i parts) (take (i + 1) (set parts i c.lend_one.new.part)) _ c.lend_one.new.part
+          inv.at there c.index_mut.ensures.value made pages (take_more_set parts i c.lend_one.new.part here) known;
     }

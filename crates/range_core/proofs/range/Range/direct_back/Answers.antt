@@ -14,7 +14,6 @@ use Rattle.range_core.specs.RangeView.{IsSound, RangeView, range_view}
 use Rattle.range_core.specs.Returning.{ComesBack}
 use Rattle.range_core.specs.declared.cell.Cell.{Cell}
 use Rattle.range_core.specs.declared.lending.Lender.{Lender}
-use Rattle.range_core.specs.declared.lending.Lender.TheVariants.{Direct}
 use Rattle.range_core.proofs.DirectBackLemmas.{IsBackRun, back_kind, back_rest, back_run, back_sound, pages_kept}
 use Rattle.range_core.proofs.OnRunLemmas.{length-on_each, on_each-twice}
 use Rattle.range_core.proofs.range.Range.direct_back.Goals as goal
@@ -22,7 +21,7 @@ use Rattle.range_core.proofs.range.Range.direct_back.Goals as goal
 pub returns-clause-kept : goal.returns-clause-kept
 returns-clause-kept c =
     let K : List Page → Type 0 = λ l. KeepsPages c.args.op (pages_held c.args.claims.now.held) l in
-    subst K (sym c.bring_home-pages.ensures.pages) (pages_kept c.args.claims.now c.requires.comes.claim c.args.op c.args.back c.args.done c.requires.comes.is_return)
+    subst K (sym c.bring_home-pages.ensures.pages) (pages_kept c.args.claims.now c.requires.comes.comes.claim c.args.op c.args.back c.args.done c.requires.comes.comes.is_return)
 
 ended : (c : goal.After-self-1) → c.end_run.new.cells.items ≡ on_each (came_back c.args.op c.args.done.failed c.args.back.parts) 0 (c.args.back.block - c.self.inside.first) (length c.args.back.parts) c.self.inside.cells.items
 ended c =
@@ -37,9 +36,9 @@ pub stamp_back-requires-clause-room : goal.stamp_back-requires-clause-room
 stamp_back-requires-clause-room c =
     let r = c.self.inside in
     let view : RangeView = range_view r.geometry r.mode r.first r.cells.items r.log.items r.cookie r.errors r.tickets (seat_view r.seat) (seat_claims r.seat).facts in
-    let lender : Lender = Direct c.args.by c.args.op in
+    let lender : Lender = c.requires.comes.lender in
     let C : RangeView → Type 0 = λ v. ComesBack v c.args.claims.now lender c.args.op c.args.back c.args.done in
-    let comes : C view = subst C (sym c.self.view_is) c.requires.comes in
+    let comes : C view = subst C (sym c.self.view_is) c.requires.comes.comes in
     let run : IsBackRun view c.args.back c.args.done = back_run view c.args.claims.now lender c.args.op c.args.back c.args.done comes in
     let rest = back_rest view c.args.claims.now lender c.args.op c.args.back c.args.done comes c.args.done.failed in
     let room = c.self.invariant.1 in
@@ -48,16 +47,16 @@ stamp_back-requires-clause-room c =
 
 pub stamp_back-requires-clause-landed : goal.stamp_back-requires-clause-landed
 stamp_back-requires-clause-landed c =
-    let run = back_run c.args.self.now c.args.claims.now (Direct c.args.by c.args.op) c.args.op c.args.back c.args.done c.requires.comes in
+    let run = back_run c.args.self.now c.args.claims.now c.requires.comes.lender c.args.op c.args.back c.args.done c.requires.comes.comes in
     omega (arith, run.landed, c.len-n.ensures.count)
 
 pub bring_home-pages-requires : goal.bring_home-pages-requires
 bring_home-pages-requires c =
     let r = c.self.inside in
     let view : RangeView = range_view r.geometry r.mode r.first r.cells.items r.log.items r.cookie r.errors r.tickets (seat_view r.seat) (seat_claims r.seat).facts in
-    let lender : Lender = Direct c.args.by c.args.op in
+    let lender : Lender = c.requires.comes.lender in
     let C : RangeView → Type 0 = λ v. ComesBack v c.args.claims.now lender c.args.op c.args.back c.args.done in
-    let comes : C view = subst C (sym c.self.view_is) c.requires.comes in
+    let comes : C view = subst C (sym c.self.view_is) c.requires.comes.comes in
     let run : IsBackRun view c.args.back c.args.done = back_run view c.args.claims.now lender c.args.op c.args.back c.args.done comes in
     omega (arith, run.low, run.high, c.self.inside.cells.ok.0)
 
@@ -65,9 +64,9 @@ pub end_run-requires : goal.end_run-requires
 end_run-requires c =
     let r = c.self.inside in
     let view : RangeView = range_view r.geometry r.mode r.first r.cells.items r.log.items r.cookie r.errors r.tickets (seat_view r.seat) (seat_claims r.seat).facts in
-    let lender : Lender = Direct c.args.by c.args.op in
+    let lender : Lender = c.requires.comes.lender in
     let C : RangeView → Type 0 = λ v. ComesBack v c.args.claims.now lender c.args.op c.args.back c.args.done in
-    let comes : C view = subst C (sym c.self.view_is) c.requires.comes in
+    let comes : C view = subst C (sym c.self.view_is) c.requires.comes.comes in
     let run : IsBackRun view c.args.back c.args.done = back_run view c.args.claims.now lender c.args.op c.args.back c.args.done comes in
     let n : ℕ = length c.args.back.parts in
     let many : length c.bring_home-pages.new.cells.items ≡ length r.cells.items =
@@ -78,9 +77,9 @@ pub invariant_of-self : goal.invariant_of-self
 invariant_of-self c =
     let r = c.self.inside in
     let view : RangeView = range_view r.geometry r.mode r.first r.cells.items r.log.items r.cookie r.errors r.tickets (seat_view r.seat) (seat_claims r.seat).facts in
-    let lender : Lender = Direct c.args.by c.args.op in
+    let lender : Lender = c.requires.comes.lender in
     let C : RangeView → Type 0 = λ v. ComesBack v c.args.claims.now lender c.args.op c.args.back c.args.done in
-    let comes : C view = subst C (sym c.self.view_is) c.requires.comes in
+    let comes : C view = subst C (sym c.self.view_is) c.requires.comes.comes in
     let run : IsBackRun view c.args.back c.args.done = back_run view c.args.claims.now lender c.args.op c.args.back c.args.done comes in
     let n : ℕ = length c.args.back.parts in
     let now : List Cell = on_each (came_back c.args.op c.args.done.failed c.args.back.parts) 0 (c.args.back.block - r.first) n r.cells.items in
@@ -100,9 +99,9 @@ pub returns-clause-state : goal.returns-clause-state
 returns-clause-state c =
     let r = c.self.inside in
     let view : RangeView = range_view r.geometry r.mode r.first r.cells.items r.log.items r.cookie r.errors r.tickets (seat_view r.seat) (seat_claims r.seat).facts in
-    let lender : Lender = Direct c.args.by c.args.op in
+    let lender : Lender = c.requires.comes.lender in
     let C : RangeView → Type 0 = λ v. ComesBack v c.args.claims.now lender c.args.op c.args.back c.args.done in
-    let comes : C view = subst C (sym c.self.view_is) c.requires.comes in
+    let comes : C view = subst C (sym c.self.view_is) c.requires.comes.comes in
     let run : IsBackRun view c.args.back c.args.done = back_run view c.args.claims.now lender c.args.op c.args.back c.args.done comes in
     let n : ℕ = length c.args.back.parts in
     let was : Kind = kind_held c.args.claims.now.held in
