@@ -1,4 +1,4 @@
-use Rattle.std.proofs.Common.{◌≡◌, ◌+◌, ◌-◌, length, sym, ◌∙◌, ap, arith}
+use Rattle.std.proofs.Common.{◌≡◌, ◌+◌, length, sym, ◌∙◌, ap, arith}
 use Rattle.range_core.specs.RangeView.{IsOfRange}
 use Rattle.range_core.proofs.StampLemmas.{journaled-nil, length-journaled}
 use Rattle.range_core.proofs.StampRunLemmas.{run-more, stamps_from-each}
