@@ -1,5 +1,5 @@
 //! The stamps of a range, kept as runs.
-ghost use Rattle.std.specs.Prelude.{◌≡◌, ◌+◌, ◌*◌, ◌<◌, ◌≤◌, ◌==◌, ◌++◌, ◌^◌, ◌&&◌, [], true, All, OnOk, length, vec_capacity, vec_len};
+ghost use Rattle.std.specs.Prelude.{◌≡◌, ◌+◌, ◌*◌, ◌<◌, ◌≤◌, ◌==◌, ◌++◌, ◌^◌, ◌&&◌, [], true, All, OnOk, vec_capacity, vec_len};
 ghost use Rattle.range_core.specs.StampRuns.{HasBlocks, equal_marks, equal_stamps, expanded, goes_on, runs_more};
 ghost use Rattle.range_core.specs.Stamps.{stamps_from};
 

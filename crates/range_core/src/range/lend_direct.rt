@@ -1,5 +1,5 @@
 //! Blocks are lent with a caller's own pages, and come back.
-ghost use Rattle.std.specs.Prelude.{◌≡◌, ◌+◌, ◌-◌, ◌<◌, ◌≤◌, ◌++◌, ◌^◌, ◌&&◌, None, All, length, map, vec_capacity, vec_len, unwrap_or, IfErr, IfOk, OnErr, OnOk};
+ghost use Rattle.std.specs.Prelude.{◌≡◌, ◌+◌, ◌-◌, ◌<◌, ◌≤◌, ◌++◌, ◌^◌, ◌&&◌, None, All, length, map, vec_len, unwrap_or, IfErr, IfOk, OnErr, OnOk};
 ghost use Rattle.range_core.specs.DirectBacks.{lands, marked_back};
 ghost use Rattle.range_core.specs.LendDirects.{goes_out, part_zeroed};
 ghost use Rattle.range_core.specs.Pages.{zeroed_page};
