@@ -1,6 +1,6 @@
 -- The range truth after bytes were written into the sectors of a file.
 use Rattle.std.proofs.Common.{◌≡◌, ℕ, ◌+◌, ◌-◌, ◌/◌, ◌<◌, ◌≤◌, ◌⊎◌, inl, inr, Bool, true, false, not, ◌&&◌, ◌||◌, if◌then◌else◌, Option, Some, None, List, [], ◌∷◌, ◌++◌, length, set, All, refl, sym, ◌∙◌, ap, subst, arith}
-use Rattle.std.specs.Prelude.{IfErr, IsSomeAnd, OnErr, OnOk, Result, Ok, Err, max, nat_le, nat_lt, slice_get}
+use Rattle.std.specs.Prelude.{IfErr, IsSomeAnd, OnOk, Result, Ok, Err, max, nat_le, nat_lt, slice_get}
 use Rattle.std.proofs.lemmas.Bool.{leb-false, ltb-false}
 use Rattle.std.proofs.lemmas.List.{length-replicate}
 use Rattle.iob_base.specs.DeviceBlock.{DeviceBlock}

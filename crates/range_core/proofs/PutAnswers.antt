@@ -1,11 +1,11 @@
 -- What came of bytes written straight into sectors, from what came of the sectors reserved for holes and of the judgement.
-use Rattle.std.proofs.Common.{◌≡◌, ℕ, ◌<◌, Bool, true, false, Option, Some, None, Ok, Err, refl, sym, subst}
+use Rattle.std.proofs.Common.{◌≡◌, ℕ, Bool, true, false, Option, Some, None, refl, sym, subst}
 use Rattle.fault_device.specs.declared.lane.Done.{Done}
 use Rattle.space_pool.specs.Pool.{PoolView}
-use Rattle.range_core.specs.DaxPools.{GivesUp, HoldsHoles, LosesHoles}
+use Rattle.range_core.specs.DaxPools.{HoldsHoles, LosesHoles}
 use Rattle.range_core.specs.DaxPuts.{LeavesPut, RefusesPut}
 use Rattle.range_core.specs.Judges.{Judges, Passes}
-use Rattle.range_core.specs.PoolTurns.{PoolPlace, ReservesAt, at_seat, place_of}
+use Rattle.range_core.specs.PoolTurns.{PoolPlace, at_seat, place_of}
 use Rattle.range_core.specs.RangeView.{RangeView}
 use Rattle.range_core.specs.Refusals.{where_true}
 use Rattle.range_core.specs.declared.fault.EventFault.{EventFault}

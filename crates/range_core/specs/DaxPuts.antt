@@ -1,5 +1,5 @@
 -- What a turn that writes bytes straight into the sectors of a file does.
-use Rattle.std.specs.Prelude.{◌≡◌, ℕ, ◌+◌, ◌-◌, ◌/◌, ◌<◌, true, false, not, Option, Some, None, List, length, All, Result, Ok, Err, IfErr, IsSomeAnd, OnErr, OnOk, slice_get}
+use Rattle.std.specs.Prelude.{◌≡◌, ℕ, ◌+◌, ◌-◌, ◌/◌, ◌<◌, true, not, Option, Some, None, List, length, All, Result, Ok, Err, IfErr, IsSomeAnd, OnErr, OnOk, slice_get}
 use Rattle.fault_device.specs.declared.lane.Done.{Done}
 use Rattle.iob_base.specs.DeviceBlock.{DeviceBlock}
 use Rattle.iob_base.specs.declared.stamp.Tag.{Tag}

@@ -1,5 +1,5 @@
 -- How a run of blocks is read past the page cache inside one turn.
-use Rattle.std.specs.Prelude.{◌≡◌, ℕ, zero, suc, ◌<◌, Bool, true, false, not, ◌&&◌, is_none, Option, Some, None, Result, IfErr, IfOk, OnErr, OnOk, slice_get, List, [], ◌∷◌, length, map, take, All, if◌then◌else◌}
+use Rattle.std.specs.Prelude.{◌≡◌, ℕ, zero, suc, ◌<◌, Bool, not, ◌&&◌, is_none, Some, None, Result, IfErr, IfOk, OnErr, OnOk, slice_get, List, [], ◌∷◌, length, map, take, All, if◌then◌else◌}
 use Rattle.std.specs.List.{prefix_len}
 use Rattle.iob_base.specs.DeviceBlock.{DeviceBlock}
 use Rattle.iob_base.specs.Parting.{pages_of}

@@ -1,4 +1,4 @@
-use Rattle.std.proofs.Common.{◌≡◌, Bool, None, Some, Option, refl, ℕ, ◌+◌, ◌-◌, ◌≤◌, List, ◌++◌, map, length, take, drop, All, sym, ◌∙◌, ap, subst, arith, length-drop}
+use Rattle.std.proofs.Common.{◌≡◌, None, Some, Option, refl, ℕ, ◌+◌, ◌-◌, ◌≤◌, List, ◌++◌, map, length, take, drop, All, sym, ◌∙◌, ap, subst, arith, length-drop}
 use Rattle.std.specs.List.{refill}
 use Rattle.iob_base.specs.Parting.{pages_of}
 use Rattle.iob_base.specs.declared.part.Part.{Part}

@@ -1,6 +1,5 @@
 use Rattle.std.proofs.Common.{◌≡◌, ◌<◌, ℕ, List, ap, sym, subst, ◌∙◌, arith, drop, get_or, length}
 use Rattle.std.proofs.lemmas.List.{get_or-map}
-use Rattle.iob_base.specs.Parting.{pages_of}
 use Rattle.iob_base.specs.declared.part.Part.{Part}
 use Rattle.iob_base.proofs.PartLemmas.{many_pages}
 use Rattle.range_core.specs.BlockTruth.{IsWholePage}
