@@ -71,3 +71,17 @@ gives_back cell before after claims left sample loan was on gone = record {
   holds = ap (λ (c : ClaimsView). c.held) gone;
   own = ap (λ (c : ClaimsView). c.main) gone ∙ was.own;
 }
+
+-- the loan's seat has joined, and the caller's turn has brought the loan home
+pub comes_home : (cell : CellView RangeView) (mine both after : SeatView Entry) (claims merged left : ClaimsView) (sample : Option Sample) (loan : Option (Lender × Lent)) → IsCaller cell mine claims sample loan → both.cell ≡ mine.cell → Begins mine.seen both.seen
+    → merged.main ≡ claims.main → GoesOn both after → left ≡ released merged → IsCaller cell after left sample None
+comes_home cell mine both after claims merged left sample loan was same more main on gone = record {
+  at_cell = on.cell ∙ same ∙ was.at_cell;
+  given = still_given both after sample on (later sample was.given);
+  holds = ap (λ (c : ClaimsView). c.held) gone;
+  own = ap (λ (c : ClaimsView). c.main) gone ∙ main ∙ was.own;
+}
+  where
+    later : (sample : Option Sample) → IfSome sample (λ s. WasGiven s mine.seen) → IfSome sample (λ s. WasGiven s both.seen)
+    later None given = given
+    later (Some s) given = given_later s mine.seen both.seen more given

@@ -1,3 +1,4 @@
 mod CallerLemmas
+mod EndLemmas
 mod SmallOpening
 mod WholeParts

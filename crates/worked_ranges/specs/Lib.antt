@@ -1,1 +1,2 @@
+pub mod SmallEnds
 pub mod SmallRanges

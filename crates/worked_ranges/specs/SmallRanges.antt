@@ -1,5 +1,5 @@
 -- A range of six blocks at a cell, and its callers.
-use Rattle.std.specs.Prelude.{◌≡◌, ℕ, Option, Some, None, IfSome, List, [], ◌∷◌, length, true}
+use Rattle.std.specs.Prelude.{◌≡◌, ℕ, ◌+◌, ◌^◌, Option, Some, None, IfSome, List, [], ◌∷◌, length, true}
 use Rattle.iob_base.specs.declared.stamp.Mode.{Mode}
 use Rattle.iob_base.specs.Parting.{IsBare}
 use Rattle.iob_base.specs.declared.part.Part.{Part}
@@ -15,9 +15,11 @@ use Rattle.turn_cell.specs.declared.cell.TurnCell.{TurnCell}
 use Rattle.turn_cell.specs.declared.chronicle.Chronicle.{Ghosts}
 use Rattle.turn_cell.specs.declared.seat.TurnSeat.{TurnSeat}
 use Rattle.space_pool.specs.Pool.{PoolView}
+use Rattle.space_pool.specs.declared.entry.PoolEntry.{PoolEntry}
 use Rattle.range_core.specs.ClaimsView.{ClaimsView}
 use Rattle.range_core.specs.RangeView.{RangeView, LiesAt}
 use Rattle.range_core.specs.KnownSamples.{WasGiven}
+use Rattle.range_core.specs.Space.{SpaceClaims}
 use Rattle.range_core.specs.declared.entry.Entry.{Entry}
 use Rattle.range_core.specs.declared.lending.Held.{Held}
 use Rattle.range_core.specs.declared.lending.Lender.{Lender}
@@ -32,10 +34,17 @@ pub record IsSmall (mode : Mode) (r : RangeView) : Type 0 where
   pub first : r.first ≡ 0
   pub blocks : length r.cells ≡ 6
 
--- the cell was opened with such a range, whose seat at the pool is of this pool
-pub record IsGround (mode : Mode) (cell : CellView RangeView) (pool : CellView PoolView) : Type 0 where
+-- a seat is of this pool, has with another seat the whole share, and claims no sector
+pub record IsKeeper (pool : CellView PoolView) (keeper : SeatView PoolEntry) (kept : SpaceClaims) (other : SeatView PoolEntry) : Type 0 where
+  pub place : keeper.cell ≡ pool.cell
+  pub whole : keeper.share + other.share ≡ 2 ^ 63
+  pub none : kept.numbers ≡ []
+
+-- the cell was opened with such a range, whose seat at the pool is of this pool, beside this keeper
+pub record IsGround (mode : Mode) (cell : CellView RangeView) (pool : CellView PoolView) (keeper : SeatView PoolEntry) (kept : SpaceClaims) : Type 0 where
   pub small : IsSmall mode cell.opening
   pub pool_is : cell.opening.seat.cell ≡ pool.cell
+  pub keeps : IsKeeper pool keeper kept cell.opening.seat
 
 -- a part of a small range's own size that has no block
 pub record IsWholeAndBare (p : Part) : Type 0 where

@@ -2,6 +2,8 @@
 #![tactic(auto)]
 
 #[cfg(test)]
+mod closing;
+#[cfg(test)]
 mod range_bytes;
 #[cfg(test)]
 mod range_caller;
@@ -23,5 +25,7 @@ mod range_steps;
 mod range_texts;
 #[cfg(test)]
 mod range_through;
+#[cfg(test)]
+mod range_tickets;
 #[cfg(test)]
 mod ranges;

@@ -1,6 +1,7 @@
 //! A caller's turns that move bytes through the page cache.
 ghost use Rattle.std.specs.Prelude.{◌≡◌, ◌<◌, ◌≤◌, ◌+◌, ◌-◌, ◌/◌, false, IfOk, length};
 ghost use Rattle.range_core.specs.Kinds.{is_hole};
+ghost use Rattle.worked_ranges.specs.SmallEnds.{own_part};
 ghost use Rattle.worked_ranges.specs.SmallRanges.{IsBuffer, Stands};
 
 use crate::range_caller::Caller;
@@ -38,6 +39,7 @@ impl<'a, R: Abort + Wait> Caller<'a, R> {
         requires start { iov.old.place ≡ 0 }
         requires buffer { IsBuffer iov.old }
         ensures stands { Stands self.new.ground.now.cell self.new.seat self.new.sample self.new.loan }
+        ensures stays { own_part self.new.ground.now.cell self.new.seat ≡ own_part self.old.ground.now.cell self.old.seat }
         ensures buffer { IsBuffer iov.new }
         ensures few { to ≤ from + 96 }
         ensures some { from < to }
@@ -62,6 +64,7 @@ impl<'a, R: Abort + Wait> Caller<'a, R> {
     ) -> Result<Result<Vec<u8>, EventFault>, AllocError>
         requires stands { Stands self.old.ground.now.cell self.old.seat self.old.sample self.old.loan }
         ensures stands { Stands self.new.ground.now.cell self.new.seat self.new.sample self.new.loan }
+        ensures stays { own_part self.new.ground.now.cell self.new.seat ≡ own_part self.old.ground.now.cell self.old.seat }
     {
         let mut iov = buffer(self.alloc, &[])?;
         match self.fetch_turn(from, to, &mut iov) {
@@ -86,6 +89,7 @@ impl<'a, R: Abort + Wait> Caller<'a, R> {
         requires start { iov.old.place ≡ 0 }
         requires buffer { IsBuffer iov.old }
         ensures stands { Stands self.new.ground.now.cell self.new.seat self.new.sample self.new.loan }
+        ensures stays { own_part self.new.ground.now.cell self.new.seat ≡ own_part self.old.ground.now.cell self.old.seat }
     {
         let seen = self.seen();
         self.expect_cached();
@@ -111,6 +115,7 @@ impl<'a, R: Abort + Wait> Caller<'a, R> {
     ) -> Result<Result<(), EventFault>, AllocError>
         requires stands { Stands self.old.ground.now.cell self.old.seat self.old.sample self.old.loan }
         ensures stands { Stands self.new.ground.now.cell self.new.seat self.new.sample self.new.loan }
+        ensures stays { own_part self.new.ground.now.cell self.new.seat ≡ own_part self.old.ground.now.cell self.old.seat }
     {
         assert!(self.rt; bytes.len() <= 96, "bytes of the range");
         assert!(self.rt; from <= 96, "bytes of the range");
@@ -122,6 +127,7 @@ impl<'a, R: Abort + Wait> Caller<'a, R> {
     pub(crate) fn store_zeros(&mut self, from: u64, to: u64) -> Result<(), EventFault>
         requires stands { Stands self.old.ground.now.cell self.old.seat self.old.sample self.old.loan }
         ensures stands { Stands self.new.ground.now.cell self.new.seat self.new.sample self.new.loan }
+        ensures stays { own_part self.new.ground.now.cell self.new.seat ≡ own_part self.old.ground.now.cell self.old.seat }
     {
         let seen = self.seen();
         self.expect_cached();

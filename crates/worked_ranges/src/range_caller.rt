@@ -3,6 +3,7 @@ ghost use Rattle.std.specs.Prelude.{◌≡◌, ◌^◌, ◌<◌, ◌≤◌, ◌+
 ghost use Rattle.turn_cell.specs.Seats.{cell_view, seat_claims, seat_view};
 ghost use Rattle.turn_cell.specs.Views.{first_seat};
 ghost use Rattle.range_core.specs.ClaimsView.{first_claims};
+ghost use Rattle.worked_ranges.specs.SmallEnds.{first_part, own_part, second_part};
 ghost use Rattle.worked_ranges.specs.SmallRanges.{Stands};
 
 use crate::range_ground::Ground;
@@ -39,7 +40,8 @@ fn caller_at<'a, R>(
     requires cell { (seat_view seat).cell ≡ (cell_view ground.now.cell).cell }
     requires free { (seat_claims seat).held ≡ None }
     requires own { (seat_claims seat).main ≡ true }
-    ensures { Stands result.ground.now.cell result.seat result.sample result.loan }
+    ensures stands { Stands result.ground.now.cell result.seat result.sample result.loan }
+    ensures part { own_part result.ground.now.cell result.seat ≡ own_part ground.now.cell seat }
 {
     Caller {
         rt,
@@ -63,6 +65,8 @@ pub(crate) fn two_callers<'a, R: Abort + Wait>(
     requires claims { seat_claims seat ≡ first_claims }
     ensures first { Stands result.0.ground.now.cell result.0.seat result.0.sample result.0.loan }
     ensures second { Stands result.1.ground.now.cell result.1.seat result.1.sample result.1.loan }
+    ensures first_part { own_part result.0.ground.now.cell result.0.seat ≡ first_part (cell_view ground.now.cell) }
+    ensures second_part { own_part result.1.ground.now.cell result.1.seat ≡ second_part (cell_view ground.now.cell) }
 {
     let other = ground.cell.split(&mut seat, 1, &mut NextCaller {});
     let first = caller_at(rt, alloc, ground, seat, Tag { caller: 0, call: 7 });
@@ -169,6 +173,7 @@ impl<'a, R: Abort + Wait> Caller<'a, R> {
     pub(crate) fn look(&mut self, block: u64, most: u64) -> Sample
         requires stands { Stands self.old.ground.now.cell self.old.seat self.old.sample self.old.loan }
         ensures stands { Stands self.new.ground.now.cell self.new.seat self.new.sample self.new.loan }
+        ensures stays { own_part self.new.ground.now.cell self.new.seat ≡ own_part self.old.ground.now.cell self.old.seat }
     {
         self.expect_run(block, 1);
         assert!(self.rt; 0 < most, "some blocks");
@@ -182,6 +187,7 @@ impl<'a, R: Abort + Wait> Caller<'a, R> {
     pub(crate) fn drop_clean(&mut self, block: u64, blocks: u64) -> u64
         requires stands { Stands self.old.ground.now.cell self.old.seat self.old.sample self.old.loan }
         ensures stands { Stands self.new.ground.now.cell self.new.seat self.new.sample self.new.loan }
+        ensures stays { own_part self.new.ground.now.cell self.new.seat ≡ own_part self.old.ground.now.cell self.old.seat }
     {
         self.expect_run(block, blocks);
         let mut change = DropCleanRun { block, blocks };
@@ -192,6 +198,7 @@ impl<'a, R: Abort + Wait> Caller<'a, R> {
     pub(crate) fn reserve(&mut self, blocks: u64) -> Result<Sample, EventFault>
         requires stands { Stands self.old.ground.now.cell self.old.seat self.old.sample self.old.loan }
         ensures stands { Stands self.new.ground.now.cell self.new.seat self.new.sample self.new.loan }
+        ensures stays { own_part self.new.ground.now.cell self.new.seat ≡ own_part self.old.ground.now.cell self.old.seat }
     {
         let seen = self.seen();
         self.expect_cached();
@@ -210,6 +217,7 @@ impl<'a, R: Abort + Wait> Caller<'a, R> {
     pub(crate) fn unreserve(&mut self, block: u64, blocks: u64) -> u64
         requires stands { Stands self.old.ground.now.cell self.old.seat self.old.sample self.old.loan }
         ensures stands { Stands self.new.ground.now.cell self.new.seat self.new.sample self.new.loan }
+        ensures stays { own_part self.new.ground.now.cell self.new.seat ≡ own_part self.old.ground.now.cell self.old.seat }
     {
         self.expect_run(block, blocks);
         let mut change = UnreserveRun {
@@ -225,6 +233,7 @@ impl<'a, R: Abort + Wait> Caller<'a, R> {
     pub(crate) fn attach(&mut self, block: u64, blocks: u64) -> Result<u64, EventFault>
         requires stands { Stands self.old.ground.now.cell self.old.seat self.old.sample self.old.loan }
         ensures stands { Stands self.new.ground.now.cell self.new.seat self.new.sample self.new.loan }
+        ensures stays { own_part self.new.ground.now.cell self.new.seat ≡ own_part self.old.ground.now.cell self.old.seat }
     {
         self.expect_run(block, blocks);
         let mut change = AttachRun {
@@ -240,6 +249,7 @@ impl<'a, R: Abort + Wait> Caller<'a, R> {
     pub(crate) fn preallocate(&mut self, block: u64, blocks: u64) -> Result<u64, EventFault>
         requires stands { Stands self.old.ground.now.cell self.old.seat self.old.sample self.old.loan }
         ensures stands { Stands self.new.ground.now.cell self.new.seat self.new.sample self.new.loan }
+        ensures stays { own_part self.new.ground.now.cell self.new.seat ≡ own_part self.old.ground.now.cell self.old.seat }
     {
         self.expect_run(block, blocks);
         let mut change = PreallocateRun {
@@ -255,6 +265,7 @@ impl<'a, R: Abort + Wait> Caller<'a, R> {
     pub(crate) fn wipe(&mut self, block: u64, blocks: u64) -> Result<u64, EventFault>
         requires stands { Stands self.old.ground.now.cell self.old.seat self.old.sample self.old.loan }
         ensures stands { Stands self.new.ground.now.cell self.new.seat self.new.sample self.new.loan }
+        ensures stays { own_part self.new.ground.now.cell self.new.seat ≡ own_part self.old.ground.now.cell self.old.seat }
     {
         self.expect_run(block, blocks);
         let mut change = WipeRun {

@@ -1,5 +1,6 @@
 //! A caller's turns that move bytes straight from and to the sectors of a file.
 ghost use Rattle.std.specs.Prelude.{◌≡◌, ◌<◌, ◌≤◌, ◌+◌, ◌-◌, ◌/◌, Some};
+ghost use Rattle.worked_ranges.specs.SmallEnds.{own_part};
 ghost use Rattle.worked_ranges.specs.SmallRanges.{IsBuffer, Stands};
 
 use crate::range_bytes::{buffer, first_bytes};
@@ -41,6 +42,7 @@ impl<'a, R: Abort + Wait> Caller<'a, R> {
         requires start { iov.old.place ≡ 0 }
         requires buffer { IsBuffer iov.old }
         ensures stands { Stands self.new.ground.now.cell self.new.seat self.new.sample self.new.loan }
+        ensures stays { own_part self.new.ground.now.cell self.new.seat ≡ own_part self.old.ground.now.cell self.old.seat }
         ensures buffer { IsBuffer iov.new }
         ensures few { to ≤ from + 96 }
         ensures some { from < to }
@@ -69,6 +71,7 @@ impl<'a, R: Abort + Wait> Caller<'a, R> {
     ) -> Result<Result<Vec<u8>, EventFault>, AllocError>
         requires stands { Stands self.old.ground.now.cell self.old.seat self.old.sample self.old.loan }
         ensures stands { Stands self.new.ground.now.cell self.new.seat self.new.sample self.new.loan }
+        ensures stays { own_part self.new.ground.now.cell self.new.seat ≡ own_part self.old.ground.now.cell self.old.seat }
     {
         let mut iov = buffer(self.alloc, &[])?;
         match self.get_turn(lane, from, to, &mut iov) {
@@ -89,6 +92,7 @@ impl<'a, R: Abort + Wait> Caller<'a, R> {
         requires start { iov.old.place ≡ 0 }
         requires buffer { IsBuffer iov.old }
         ensures stands { Stands self.new.ground.now.cell self.new.seat self.new.sample self.new.loan }
+        ensures stays { own_part self.new.ground.now.cell self.new.seat ≡ own_part self.old.ground.now.cell self.old.seat }
     {
         let seen = self.expect_through(from, to);
         let _ = iov.count();
@@ -116,6 +120,7 @@ impl<'a, R: Abort + Wait> Caller<'a, R> {
     ) -> Result<Result<(), EventFault>, AllocError>
         requires stands { Stands self.old.ground.now.cell self.old.seat self.old.sample self.old.loan }
         ensures stands { Stands self.new.ground.now.cell self.new.seat self.new.sample self.new.loan }
+        ensures stays { own_part self.new.ground.now.cell self.new.seat ≡ own_part self.old.ground.now.cell self.old.seat }
     {
         assert!(self.rt; bytes.len() <= 96, "bytes of the range");
         assert!(self.rt; from <= 96, "bytes of the range");
@@ -127,6 +132,7 @@ impl<'a, R: Abort + Wait> Caller<'a, R> {
     pub(crate) fn dax_zero(&mut self, lane: &mut Lane, from: u64, to: u64) -> Result<(), EventFault>
         requires stands { Stands self.old.ground.now.cell self.old.seat self.old.sample self.old.loan }
         ensures stands { Stands self.new.ground.now.cell self.new.seat self.new.sample self.new.loan }
+        ensures stays { own_part self.new.ground.now.cell self.new.seat ≡ own_part self.old.ground.now.cell self.old.seat }
     {
         let seen = self.expect_through(from, to);
         let mut change = DaxZeroRun {

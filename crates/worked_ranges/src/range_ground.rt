@@ -1,6 +1,6 @@
 //! A range of six blocks at a cell, with its pool: two blocks with bytes of their own, one with space that was never
 //! written, and three holes.
-ghost use Rattle.std.specs.Prelude.{◌≡◌, ◌^◌, ◌≤◌, ◌++◌, [], ◌∷◌, Some, None, All, IfSome, length};
+ghost use Rattle.std.specs.Prelude.{◌≡◌, ◌^◌, ◌≤◌, ◌++◌, [], ◌∷◌, Some, None, All, IfSome, false, length};
 ghost use Rattle.iob_base.specs.DeviceBlock.{device_block};
 ghost use Rattle.iob_base.specs.Layout.{layout};
 ghost use Rattle.turn_cell.specs.Seats.{cell_view, seat_claims, seat_view};
@@ -10,7 +10,8 @@ ghost use Rattle.space_pool.specs.Pool.{AreDistinct, HasSize};
 ghost use Rattle.space_pool.specs.Seats.{pool_cell};
 ghost use Rattle.range_core.specs.ClaimsView.{first_claims};
 ghost use Rattle.range_core.specs.RangeTruth.{RangeTruth};
-ghost use Rattle.worked_ranges.specs.SmallRanges.{IsGround, IsSmall, OWN_NUMBERS, SMALL_EXTENTS};
+ghost use Rattle.worked_ranges.specs.SmallEnds.{DEVICE_NUMBERS, SameNumbers};
+ghost use Rattle.worked_ranges.specs.SmallRanges.{IsGround, IsKeeper, IsSmall, OWN_NUMBERS, SMALL_EXTENTS};
 
 use io_model::{Extent, Kind};
 use iob_base::{Geometry, Mode, Sector, WORN, sectors};
@@ -28,13 +29,14 @@ pub(crate) struct Begin {
     pub(crate) scarce: bool,
 }
 
-/// The cell of the range, and the pool at which the range has its seat.
+/// The cell of the range, and the pool at which the range has its seat, with the seat that has the rest of the share there.
 #[derive(Drop)]
 pub(crate) struct Ground {
     pub(crate) space: SpacePool,
+    pub(crate) keeper: PoolSeat,
     pub(crate) cell: TurnCell<Range>,
     pub(crate) mode: Mode,
-    ghost stands: { IsGround mode (cell_view cell) (pool_cell space) },
+    pub(crate) ghost stands: { IsGround mode (cell_view cell) (pool_cell space) (seat_view keeper) (seat_claims keeper).facts },
 }
 
 // Gives a block these bytes.
@@ -75,6 +77,7 @@ fn kept(mut free: Vec<Sector>, scarce: bool) -> Vec<Sector>
     requires sized { All (HasSize 16) free.items }
     ensures distinct { AreDistinct (OWN_NUMBERS ++ numbers_of result.items) }
     ensures sized { All (HasSize 16) result.items }
+    ensures all { scarce ≡ false → result ≡ free }
 {
     if scarce {
         free.truncate(2);
@@ -101,24 +104,31 @@ fn extents(alloc: Global) -> Option<Vec<Extent>>
     Some(extents)
 }
 
+// The pool, its keeper's seat, and the seat of the range there.
 fn pool(
     alloc: Global,
     geometry: Geometry,
     free: Vec<Sector>,
     own: &[Sector],
-) -> Option<(SpacePool, PoolSeat)>
+) -> Option<(SpacePool, PoolSeat, PoolSeat)>
     requires size { geometry.block_size ≡ 16 }
     requires numbers { numbers_of own.now ≡ OWN_NUMBERS }
     requires own_sized { All (HasSize 16) own.now }
     requires distinct { AreDistinct (OWN_NUMBERS ++ numbers_of free.items) }
     requires free_sized { All (HasSize 16) free.items }
-    ensures cell { IfSome result (λ r. (seat_view r.1).cell ≡ (pool_cell r.0).cell) }
-    ensures claims { IfSome result (λ r. (seat_claims r.1).facts ≡ claims_with own.now 6 16) }
+    ensures cell { IfSome result (λ r. (seat_view r.2).cell ≡ (pool_cell r.0).cell) }
+    ensures keeps { IfSome result (λ r. IsKeeper (pool_cell r.0) (seat_view r.1) (seat_claims r.1).facts (seat_view r.2)) }
+    ensures claims { IfSome result (λ r. (seat_claims r.2).facts ≡ claims_with own.now 6 16) }
+    ensures all { IfSome result (λ r. (pool_cell r.0).opening.numbers ≡ OWN_NUMBERS ++ numbers_of free.items) }
 {
-    match SpacePool::start(alloc, geometry, free, own, 6) {
-        Ok(both) => Some(both),
-        Err(NoPool { free: _ }) => None,
-    }
+    let (space, mut keeper) = match SpacePool::start(alloc, geometry, free, own, 6) {
+        Ok(both) => both,
+        Err(NoPool { free: _ }) => return None,
+    };
+    let Ok(seat) = space.split(&mut keeper, 6, own) else {
+        return None;
+    };
+    Some((space, keeper, seat))
 }
 
 // The range over these sectors.
@@ -135,7 +145,7 @@ fn range(
     requires sized { All (HasSize 16) own.items }
     requires claims { (seat_claims seat).facts ≡ claims_with own.items 6 16 }
     ensures small { IfSome result (λ r. IsSmall begin.mode r) }
-    ensures pool { IfSome result (λ r. r.seat.cell ≡ (seat_view seat).cell) }
+    ensures pool { IfSome result (λ r. r.seat ≡ seat_view seat) }
     ensures truth { IfSome result (λ r. RangeTruth r r [] ((Some first_claims, []) ∷ [])) }
 {
     let extents = extents(alloc)?;
@@ -155,20 +165,22 @@ fn range(
     Some(range)
 }
 
-// The range, and the pool at which it has its seat.
-fn opened(alloc: Global, begin: Begin) -> Option<(SpacePool, Range)>
+// The pool, its keeper's seat, and the range.
+fn opened(alloc: Global, begin: Begin) -> Option<(SpacePool, PoolSeat, Range)>
     requires { begin.cookie ≤ WORN }
-    ensures small { IfSome result (λ r. IsSmall begin.mode r.1) }
-    ensures pool { IfSome result (λ r. r.1.seat.cell ≡ (pool_cell r.0).cell) }
-    ensures truth { IfSome result (λ r. RangeTruth r.1 r.1 [] ((Some first_claims, []) ∷ [])) }
+    ensures small { IfSome result (λ r. IsSmall begin.mode r.2) }
+    ensures pool { IfSome result (λ r. r.2.seat.cell ≡ (pool_cell r.0).cell) }
+    ensures keeps { IfSome result (λ r. IsKeeper (pool_cell r.0) (seat_view r.1) (seat_claims r.1).facts r.2.seat) }
+    ensures truth { IfSome result (λ r. RangeTruth r.2 r.2 [] ((Some first_claims, []) ∷ [])) }
+    ensures all { IfSome result (λ r. begin.scarce ≡ false → SameNumbers (pool_cell r.0).opening.numbers DEVICE_NUMBERS) }
 {
     let Ok(geometry) = Geometry::new(16, 4) else {
         return None;
     };
     let (own, free) = device(alloc, geometry)?;
-    let (space, seat) = pool(alloc, geometry, kept(free, begin.scarce), &own)?;
+    let (space, keeper, seat) = pool(alloc, geometry, kept(free, begin.scarce), &own)?;
     let range = range(alloc, geometry, begin, own, seat)?;
-    Some((space, range))
+    Some((space, keeper, range))
 }
 
 /// The range at a cell, and the first seat there. `None` where there is no memory.
@@ -176,15 +188,17 @@ pub(crate) fn started(alloc: Global, begin: Begin) -> Option<(Ground, TurnSeat<R
     ensures mode { IfSome result (λ r. r.0.mode ≡ begin.mode) }
     ensures seat { IfSome result (λ r. seat_view r.1 ≡ first_seat (cell_view r.0.cell).cell (2 ^ 63)) }
     ensures claims { IfSome result (λ r. seat_claims r.1 ≡ first_claims) }
+    ensures all { IfSome result (λ r. begin.scarce ≡ false → SameNumbers (pool_cell r.0.space).opening.numbers DEVICE_NUMBERS) }
 {
     if begin.cookie > WORN {
         return None;
     }
-    let (space, range) = opened(alloc, begin)?;
+    let (space, keeper, range) = opened(alloc, begin)?;
     match TurnCell::start(alloc, range, Claims::first()) {
         Ok((cell, seat)) => {
             let ground = Ground {
                 space,
+                keeper,
                 cell,
                 mode: begin.mode,
             };

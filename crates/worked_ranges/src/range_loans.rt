@@ -7,6 +7,7 @@ ghost use Rattle.range_core.specs.LendDirects.{CanTake};
 ghost use Rattle.range_core.specs.Refusals.{covers_in_part};
 ghost use Rattle.range_core.specs.Returning.{parts_after};
 ghost use Rattle.range_core.specs.Spots.{blocks_met};
+ghost use Rattle.worked_ranges.specs.SmallEnds.{own_part};
 ghost use Rattle.worked_ranges.specs.SmallRanges.{IsWholeAndBare, Stands};
 
 use crate::range_caller::Caller;
@@ -113,8 +114,8 @@ fn ticket_of(lent: &Lent) -> Loan {
     }
 }
 
-// The transfer of what was lent.
-fn carry(lane: &mut Lane, op: Op, lent: &mut Lent) -> Done
+/// The transfer of what was lent.
+pub(crate) fn carry(lane: &mut Lane, op: Op, lent: &mut Lent) -> Done
     requires { CanTransfer lent.old.parts }
     ensures ticket { lent.new.ticket ≡ lent.old.ticket }
     ensures block { lent.new.block ≡ lent.old.block }
@@ -146,6 +147,7 @@ impl<'a, R: Abort + Wait> Caller<'a, R> {
     pub(crate) fn lend_cold(&mut self, block: u64, blocks: u64) -> Result<Loan, EventFault>
         requires stands { Stands self.old.ground.now.cell self.old.seat self.old.sample self.old.loan }
         ensures stands { Stands self.new.ground.now.cell self.new.seat self.new.sample self.new.loan }
+        ensures stays { own_part self.new.ground.now.cell self.new.seat ≡ own_part self.old.ground.now.cell self.old.seat }
     {
         self.expect_cached();
         self.expect_run(block, blocks);
@@ -171,6 +173,7 @@ impl<'a, R: Abort + Wait> Caller<'a, R> {
     pub(crate) fn lend_dirty(&mut self, block: u64, blocks: u64) -> Result<Loan, EventFault>
         requires stands { Stands self.old.ground.now.cell self.old.seat self.old.sample self.old.loan }
         ensures stands { Stands self.new.ground.now.cell self.new.seat self.new.sample self.new.loan }
+        ensures stays { own_part self.new.ground.now.cell self.new.seat ≡ own_part self.old.ground.now.cell self.old.seat }
     {
         self.expect_run(block, blocks);
         self.expect_free();
@@ -223,6 +226,7 @@ impl<'a, R: Abort + Wait> Caller<'a, R> {
         requires whole { All (IsWholePage 16) (pages_of pages) }
         requires bare { All IsBare pages }
         ensures stands { Stands self.new.ground.now.cell self.new.seat self.new.sample self.new.loan }
+        ensures stays { own_part self.new.ground.now.cell self.new.seat ≡ own_part self.old.ground.now.cell self.old.seat }
     {
         let seen = self.seen();
         let n = pages.len() as u64;
@@ -259,6 +263,7 @@ impl<'a, R: Abort + Wait> Caller<'a, R> {
     ) -> Result<Result<Loan, Refused>, AllocError>
         requires stands { Stands self.old.ground.now.cell self.old.seat self.old.sample self.old.loan }
         ensures stands { Stands self.new.ground.now.cell self.new.seat self.new.sample self.new.loan }
+        ensures stays { own_part self.new.ground.now.cell self.new.seat ≡ own_part self.old.ground.now.cell self.old.seat }
     {
         assert!(self.rt; fills.len() <= 6, "pages for blocks of the range");
         let pages = list_of(self.alloc, fills)?;
@@ -339,6 +344,7 @@ impl<'a, R: Abort + Wait> Caller<'a, R> {
         requires free { self.old.loan ≡ None }
         requires stands { Stands self.old.ground.now.cell self.old.seat self.old.sample (Some (Lender.Reading, back)) }
         ensures stands { Stands self.new.ground.now.cell self.new.seat self.new.sample self.new.loan }
+        ensures stays { own_part self.new.ground.now.cell self.new.seat ≡ own_part self.old.ground.now.cell self.old.seat }
     {
         let done = carry(lane, Op::Read, &mut back);
         let mut change = FillBackRun {
@@ -354,6 +360,7 @@ impl<'a, R: Abort + Wait> Caller<'a, R> {
         requires free { self.old.loan ≡ None }
         requires stands { Stands self.old.ground.now.cell self.old.seat self.old.sample (Some (Lender.Writeback, back)) }
         ensures stands { Stands self.new.ground.now.cell self.new.seat self.new.sample self.new.loan }
+        ensures stays { own_part self.new.ground.now.cell self.new.seat ≡ own_part self.old.ground.now.cell self.old.seat }
     {
         let done = carry(lane, Op::Write, &mut back);
         let mut change = WrittenBackRun {
@@ -373,6 +380,7 @@ impl<'a, R: Abort + Wait> Caller<'a, R> {
         requires free { self.old.loan ≡ None }
         requires stands { Stands self.old.ground.now.cell self.old.seat self.old.sample (Some (Lender.Direct by op, back)) }
         ensures stands { Stands self.new.ground.now.cell self.new.seat self.new.sample self.new.loan }
+        ensures stays { own_part self.new.ground.now.cell self.new.seat ≡ own_part self.old.ground.now.cell self.old.seat }
     {
         let done = carry(lane, op, &mut back);
         let mut change = DirectBackRun {
@@ -414,6 +422,7 @@ impl<'a, R: Abort + Wait> Caller<'a, R> {
     pub(crate) fn bring_back(&mut self, lane: &mut Lane) -> Back
         requires stands { Stands self.old.ground.now.cell self.old.seat self.old.sample self.old.loan }
         ensures stands { Stands self.new.ground.now.cell self.new.seat self.new.sample self.new.loan }
+        ensures stays { own_part self.new.ground.now.cell self.new.seat ≡ own_part self.old.ground.now.cell self.old.seat }
     {
         let Some((lender, back)) = self.loan.take() else {
             panic!(self.rt; "something was lent")
@@ -440,6 +449,7 @@ impl<'a, R: Abort + Wait> Caller<'a, R> {
         requires stands { Stands self.old.ground.now.cell self.old.seat self.old.sample self.old.loan }
         requires whole { All (IsWholePage 16) (pages_of pages.old) }
         ensures stands { Stands self.new.ground.now.cell self.new.seat self.new.sample self.new.loan }
+        ensures stays { own_part self.new.ground.now.cell self.new.seat ≡ own_part self.old.ground.now.cell self.old.seat }
     {
         self.expect_cached();
         self.expect_run(block, 1);
@@ -464,6 +474,7 @@ impl<'a, R: Abort + Wait> Caller<'a, R> {
     ) -> Result<Result<Now, Unread>, AllocError>
         requires stands { Stands self.old.ground.now.cell self.old.seat self.old.sample self.old.loan }
         ensures stands { Stands self.new.ground.now.cell self.new.seat self.new.sample self.new.loan }
+        ensures stays { own_part self.new.ground.now.cell self.new.seat ≡ own_part self.old.ground.now.cell self.old.seat }
     {
         assert!(self.rt; fills.len() <= 6, "pages for blocks of the range");
         let mut pages = list_of(self.alloc, fills)?;

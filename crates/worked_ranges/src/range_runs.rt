@@ -1,4 +1,6 @@
 //! Runs of turns at a range, with what each turn is to answer.
+ghost use Rattle.std.specs.Prelude.{◌≡◌};
+ghost use Rattle.worked_ranges.specs.SmallEnds.{own_part};
 ghost use Rattle.worked_ranges.specs.SmallRanges.{Stands};
 
 use crate::range_caller::{Caller, two_callers};
@@ -54,6 +56,8 @@ fn take_turn<R: Abort + Wait>(
     requires second { Stands second.old.ground.now.cell second.old.seat second.old.sample second.old.loan }
     ensures first { Stands first.new.ground.now.cell first.new.seat first.new.sample first.new.loan }
     ensures second { Stands second.new.ground.now.cell second.new.seat second.new.sample second.new.loan }
+    ensures first_stays { own_part first.new.ground.now.cell first.new.seat ≡ own_part first.old.ground.now.cell first.old.seat }
+    ensures second_stays { own_part second.new.ground.now.cell second.new.seat ≡ own_part second.old.ground.now.cell second.old.seat }
 {
     if who == 0 {
         return first.take_step(lane, step);
@@ -61,26 +65,30 @@ fn take_turn<R: Abort + Wait>(
     second.take_step(lane, step)
 }
 
-// Makes these turns, and compares the answers.
-fn take_turns<R: Abort + Wait>(
+/// Makes these turns, and compares the answers.
+pub(crate) fn take_turns<R: Abort + Wait>(
     rt: &R,
     lines: &[Line],
-    mut first: Caller<R>,
-    mut second: Caller<R>,
+    first: &mut Caller<R>,
+    second: &mut Caller<R>,
     lane: &mut Lane,
 ) -> Result<(), AllocError>
-    requires first { Stands first.ground.now.cell first.seat first.sample first.loan }
-    requires second { Stands second.ground.now.cell second.seat second.sample second.loan }
+    requires first { Stands first.old.ground.now.cell first.old.seat first.old.sample first.old.loan }
+    requires second { Stands second.old.ground.now.cell second.old.seat second.old.sample second.old.loan }
+    ensures first { Stands first.new.ground.now.cell first.new.seat first.new.sample first.new.loan }
+    ensures second { Stands second.new.ground.now.cell second.new.seat second.new.sample second.new.loan }
+    ensures first_stays { own_part first.new.ground.now.cell first.new.seat ≡ own_part first.old.ground.now.cell first.old.seat }
+    ensures second_stays { own_part second.new.ground.now.cell second.new.seat ≡ own_part second.old.ground.now.cell second.old.seat }
 {
     for (at, (who, step, answer)) in lines.iter().enumerate() {
-        let said = take_turn(*who, *step, &mut first, &mut second, lane)?;
+        let said = take_turn(*who, *step, first, second, lane)?;
         assert_eq!(rt; said.as_str(), *answer, "at line {at}");
     }
     Ok(())
 }
 
-// The lane of a run.
-fn armed_lane(alloc: Global, fails: &[u64]) -> Result<Lane, AllocError> {
+/// The lane of a run.
+pub(crate) fn armed_lane(alloc: Global, fails: &[u64]) -> Result<Lane, AllocError> {
     let mut lane = Lane::new(3, Box::new(alloc, Listed::new(alloc))?);
     for op in fails {
         lane.arm(*op)?;
@@ -91,8 +99,8 @@ fn armed_lane(alloc: Global, fails: &[u64]) -> Result<Lane, AllocError> {
 /// Makes the turns of a run, and compares the answers.
 pub(crate) fn play<R: Abort + Wait>(rt: &R, alloc: Global, run: &Run) -> Result<(), Fail> {
     let (ground, seat) = started(alloc, run.begin).ok_or("there is memory")?;
-    let (first, second) = two_callers(rt, alloc, &ground, seat);
+    let (mut first, mut second) = two_callers(rt, alloc, &ground, seat);
     let mut lane = armed_lane(alloc, run.fails)?;
-    take_turns(rt, run.lines, first, second, &mut lane)?;
+    take_turns(rt, run.lines, &mut first, &mut second, &mut lane)?;
     Ok(())
 }

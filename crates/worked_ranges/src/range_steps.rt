@@ -1,4 +1,6 @@
 //! What callers ask of a range, step by step.
+ghost use Rattle.std.specs.Prelude.{◌≡◌};
+ghost use Rattle.worked_ranges.specs.SmallEnds.{own_part};
 ghost use Rattle.worked_ranges.specs.SmallRanges.{Stands};
 
 use crate::range_caller::Caller;
@@ -44,6 +46,7 @@ impl<'a, R: Abort + Wait> Caller<'a, R> {
     pub(crate) fn take_step(&mut self, lane: &mut Lane, step: Step) -> Result<String, AllocError>
         requires stands { Stands self.old.ground.now.cell self.old.seat self.old.sample self.old.loan }
         ensures stands { Stands self.new.ground.now.cell self.new.seat self.new.sample self.new.loan }
+        ensures stays { own_part self.new.ground.now.cell self.new.seat ≡ own_part self.old.ground.now.cell self.old.seat }
     {
         let alloc = self.alloc;
         match step {

@@ -2,14 +2,14 @@ use Rattle.turn_cell.specs.Seats.{seat_view}
 use Rattle.worked_ranges.proofs.CallerLemmas.{GoesOn, goes_on, small_lies, takes}
 use Rattle.worked_ranges.proofs.range_caller.Caller.lend_dirty.Goals as goal
 
-pub returns-in-Ok : goal.returns-in-Ok
-returns-in-Ok g c =
+pub returns-in-Ok-clause-stands : goal.returns-in-Ok-clause-stands
+returns-in-Ok-clause-stands g c =
     let t = c.in-Ok.ensures.turned in
     let on : GoesOn (seat_view c.args.self.now.seat) (seat_view c.turn.new.seat) = record { cell = c.in-Ok.ensures.same.0; others = t.others; entry = t.entry; seen = t.seen_is } in
-    record { stands = takes _ _ _ _ _ _ _ _ _ _ c.requires.stands on t.done.claims_are t.done.ready (small_lies _ _ _ _ c.args.self.now.ground.now.stands.small c.expect_loan.ensures.some c.expect_loan.ensures.within) }
+    takes _ _ _ _ _ _ _ _ _ _ c.requires.stands on t.done.claims_are t.done.ready (small_lies _ _ _ _ c.args.self.now.ground.now.stands.small c.expect_loan.ensures.some c.expect_loan.ensures.within)
 
-pub returns-in-Err : goal.returns-in-Err
-returns-in-Err g c =
+pub returns-in-Err-clause-stands : goal.returns-in-Err-clause-stands
+returns-in-Err-clause-stands g c =
     let t = c.in-Err.ensures.turned in
     let on : GoesOn (seat_view c.args.self.now.seat) (seat_view c.turn.new.seat) = record { cell = c.in-Err.ensures.same.0; others = t.others; entry = t.entry; seen = t.seen_is } in
-    record { stands = goes_on _ _ _ _ _ _ _ c.requires.stands on t.done.claims_are }
+    goes_on _ _ _ _ _ _ _ c.requires.stands on t.done.claims_are
