@@ -6,10 +6,10 @@ use Rattle.std.specs.Prelude.{nat_lt}
 use Rattle.iob_base.specs.declared.stamp.Op.{Op}
 use Rattle.iob_base.specs.declared.stamp.Op.TheVariants.{Read, Write}
 use Rattle.iob_base.specs.declared.part.Part.{Part}
-use Rattle.fault_device.specs.Transfer.{CanTransfer, IsWhole, block_read, block_written}
+use Rattle.fault_device.specs.Transfer.{CanTransfer, IsWhole, block_read, block_written, parts_after}
 use Rattle.fault_device.specs.declared.lane.Done.{Done}
 use Rattle.bio_pages.specs.declared.bio.Bio.{Bio}
-use Rattle.bio_pages.specs.Running.{IsRun, parts_after}
+use Rattle.bio_pages.specs.Running.{IsRun}
 
 module _ {A : Type 0} (f : A → A) where
   -- a list of which the first n items are moved

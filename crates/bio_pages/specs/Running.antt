@@ -1,19 +1,11 @@
 -- What becomes of a bio that is run.
-use Rattle.std.specs.Prelude.{◌≡◌, ◌≤◌, ℕ, true, nat_lt, List, length}
+use Rattle.std.specs.Prelude.{◌≡◌, ◌≤◌, ℕ, true, nat_lt, length}
 use Rattle.iob_base.specs.Counts.{Rose}
-use Rattle.iob_base.specs.declared.stamp.Op.{Op}
-use Rattle.iob_base.specs.declared.stamp.Op.TheVariants.{Read, Write}
 use Rattle.fault_device.specs.LaneView.{LaneView}
 use Rattle.fault_device.specs.Ran.{Ran}
 use Rattle.fault_device.specs.declared.lane.Done.{Done}
-use Rattle.iob_base.specs.declared.part.Part.{Part}
-use Rattle.fault_device.specs.Transfer.{parts_read, parts_written}
+use Rattle.fault_device.specs.Transfer.{parts_after}
 use Rattle.bio_pages.specs.declared.bio.Bio.{Bio}
-
--- the parts of a bio after its run, of which so many blocks landed
-abbrev pub parts_after : Op → ℕ → List Part → List Part
-parts_after Read landed parts = parts_read landed parts
-parts_after Write landed parts = parts_written landed parts
 
 -- The bio is as it was, after the one transfer that its `Done` tells: its parts are moved as far as they landed, and all else stays
 pub record IsRun {T : Type 0} (before after : Bio T) (done : Done) : Type 0 where

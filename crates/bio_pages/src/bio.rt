@@ -2,8 +2,8 @@
 ghost use Rattle.std.specs.Prelude.{◌≡◌, length};
 ghost use Rattle.fault_device.specs.LaneView.{lane_seen};
 ghost use Rattle.fault_device.specs.Opening.{Opening, IsServed, Serves};
-ghost use Rattle.fault_device.specs.Transfer.{CanTransfer, Tells};
-ghost use Rattle.bio_pages.specs.Running.{IsRun, parts_after};
+ghost use Rattle.fault_device.specs.Transfer.{CanTransfer, Tells, parts_after};
+ghost use Rattle.bio_pages.specs.Running.{IsRun};
 
 use fault_device::{Done, Lane};
 use iob_base::{Op, Parts};

@@ -24,7 +24,7 @@ use Rattle.range_core.specs.Kinds.{has_space, is_delalloc, is_mapped, is_unwritt
 use Rattle.range_core.specs.Loans.{ChangesSeat}
 use Rattle.range_core.specs.OnRun.{on_each}
 use Rattle.range_core.specs.RangeTruth.{is_lent_for_writing, pending}
-use Rattle.range_core.specs.Returning.{parts_after}
+use Rattle.fault_device.specs.Transfer.{parts_after}
 use Rattle.range_core.specs.Spots.{in_run}
 use Rattle.range_core.specs.Stakes.{RangeStake, names_block}
 use Rattle.range_core.specs.declared.cell.Cell.{Cell}

@@ -25,7 +25,8 @@ use Rattle.range_core.specs.Kinds.{has_space, is_delalloc, is_mapped, written_ki
 use Rattle.range_core.specs.Lends.{home_cell, home_of}
 use Rattle.range_core.specs.OnRun.{on_each}
 use Rattle.range_core.specs.RangeView.{IsOfRange, IsSound, RangeView, range_view}
-use Rattle.range_core.specs.Returning.{ComesBack, IsOutOn, IsReturn, parts_after}
+use Rattle.fault_device.specs.Transfer.{parts_after}
+use Rattle.range_core.specs.Returning.{ComesBack, IsOutOn, IsReturn}
 use Rattle.range_core.specs.Space.{ClaimsSpace, SpaceClaims, number_weight, promised, weigh_number}
 use Rattle.range_core.specs.Stamps.{done_by, stamps_from}
 use Rattle.range_core.specs.declared.cell.Cell.{Cell}

@@ -30,7 +30,8 @@ use Rattle.range_core.specs.Loans.{ChangesSeat}
 use Rattle.range_core.specs.OnRun.{on_each}
 use Rattle.range_core.specs.RangeTruth.{IsUncached, RangeTruth, content_at, pending}
 use Rattle.range_core.specs.RangeView.{RangeView}
-use Rattle.range_core.specs.Returning.{ComesBack, IsOutOn, MayComeBack, parts_after}
+use Rattle.fault_device.specs.Transfer.{parts_after}
+use Rattle.range_core.specs.Returning.{ComesBack, IsOutOn, MayComeBack}
 use Rattle.range_core.specs.Spots.{in_run}
 use Rattle.range_core.specs.Stakes.{RangeStake, names_block}
 use Rattle.range_core.specs.declared.cell.Cell.{Cell}

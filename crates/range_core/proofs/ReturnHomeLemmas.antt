@@ -4,7 +4,7 @@ use Rattle.std.specs.Prelude.{is_some, slice_get}
 use Rattle.iob_base.specs.DeviceBlock.{DeviceBlock}
 use Rattle.iob_base.specs.declared.stamp.Op.{Op}
 use Rattle.iob_base.specs.declared.stamp.Op.TheVariants.{Read, Write}
-use Rattle.fault_device.specs.Transfer.{block_read, block_written, parts_read, parts_written}
+use Rattle.fault_device.specs.Transfer.{block_read, block_written, parts_after, parts_read, parts_written}
 use Rattle.fault_device.specs.declared.lane.Done.{Done}
 use Rattle.iob_base.specs.declared.part.Part.{Part}
 use Rattle.io_model.specs.Kinds.{device_number}
@@ -16,7 +16,7 @@ use Rattle.range_core.specs.EntryCounts.{one_where}
 use Rattle.range_core.specs.Kinds.{has_space, is_delalloc}
 use Rattle.range_core.specs.OnRun.{on_each}
 use Rattle.range_core.specs.RangeView.{IsSound, RangeView, range_view}
-use Rattle.range_core.specs.Returning.{AreOut, IsReturn, parts_after}
+use Rattle.range_core.specs.Returning.{AreOut, IsReturn}
 use Rattle.range_core.specs.Space.{ClaimsSpace, SpaceClaims, number_weight, promised, weigh_number}
 use Rattle.range_core.specs.declared.cell.Cell.{Cell}
 use Rattle.range_core.specs.declared.lending.Away.{Away}

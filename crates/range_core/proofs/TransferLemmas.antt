@@ -4,9 +4,8 @@ use Rattle.std.specs.Prelude.{nat_lt, slice_get}
 use Rattle.std.proofs.lemmas.Bool.{ltb-false, ltb-true}
 use Rattle.iob_base.specs.declared.stamp.Op.{Op}
 use Rattle.iob_base.specs.declared.stamp.Op.TheVariants.{Read, Write}
-use Rattle.fault_device.specs.Transfer.{block_read, block_written}
+use Rattle.fault_device.specs.Transfer.{block_read, block_written, parts_after}
 use Rattle.iob_base.specs.declared.part.Part.{Part}
-use Rattle.range_core.specs.Returning.{parts_after}
 
 -- a part that was moved, where it landed
 abbrev pub moved : Op → Part → Part

@@ -1,10 +1,9 @@
 -- How what was lent comes back.
 use Rattle.std.specs.Prelude.{◌≡◌, ℕ, ◌+◌, ◌-◌, ◌<◌, ◌≤◌, nat_lt, Option, Some, None, List, length, slice_get, IfSome}
-use Rattle.fault_device.specs.Transfer.{parts_read, parts_written}
+use Rattle.fault_device.specs.Transfer.{parts_after}
 use Rattle.fault_device.specs.declared.lane.Done.{Done}
 use Rattle.iob_base.specs.declared.part.Part.{Part}
 use Rattle.iob_base.specs.declared.stamp.Op.{Op}
-use Rattle.iob_base.specs.declared.stamp.Op.TheVariants.{Read, Write}
 use Rattle.io_model.specs.Kinds.{device_number, kind_after}
 use Rattle.range_core.specs.BlockTruth.{IsWholePage}
 use Rattle.range_core.specs.Cells.{IsBlock}
@@ -14,11 +13,6 @@ use Rattle.range_core.specs.declared.cell.Cell.{Cell}
 use Rattle.range_core.specs.declared.lending.Held.{Held}
 use Rattle.range_core.specs.declared.lending.Lender.{Lender}
 use Rattle.range_core.specs.declared.lending.Lent.{Lent}
-
--- parts after a transfer of which so many blocks landed
-abbrev pub parts_after : Op → ℕ → List Part → List Part
-parts_after Read landed parts = parts_read landed parts
-parts_after Write landed parts = parts_written landed parts
 
 -- These claims are on what comes back, which is as it was lent, after the transfer that `done` tells
 pub record IsReturn (claims : ClaimsView) (h : Held) (op : Op) (back : Lent) (done : Done) : Type 0 where

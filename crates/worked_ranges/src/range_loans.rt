@@ -1,11 +1,10 @@
 //! A caller's turns that lend blocks, and those that bring them back after a transfer.
 ghost use Rattle.std.specs.Prelude.{◌≡◌, ◌+◌, ◌/◌, ◌<◌, ◌≤◌, [], true, Some, None, All, IfOk, OnErr, length, nat_lt};
-ghost use Rattle.fault_device.specs.Transfer.{CanTransfer};
+ghost use Rattle.fault_device.specs.Transfer.{CanTransfer, parts_after};
 ghost use Rattle.iob_base.specs.Parting.{IsBare, pages_of};
 ghost use Rattle.range_core.specs.BlockTruth.{IsWholePage};
 ghost use Rattle.range_core.specs.LendDirects.{CanTake};
 ghost use Rattle.range_core.specs.Refusals.{covers_in_part};
-ghost use Rattle.range_core.specs.Returning.{parts_after};
 ghost use Rattle.range_core.specs.Spots.{blocks_met};
 ghost use Rattle.worked_ranges.specs.SmallEnds.{own_part};
 ghost use Rattle.worked_ranges.specs.SmallRanges.{IsWholeAndBare, Stands};
