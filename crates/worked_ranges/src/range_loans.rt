@@ -290,6 +290,7 @@ impl<'a, R: Abort + Wait> Caller<'a, R> {
         requires whole { All (IsWholePage 16) (pages_of page) }
         requires bare { All IsBare page }
         ensures stands { Stands self.new.ground.now.cell self.new.seat self.new.sample self.new.loan }
+        ensures stays { own_part self.new.ground.now.cell self.new.seat ≡ own_part self.old.ground.now.cell self.old.seat }
     {
         let seen = self.seen();
         self.expect_cached();
@@ -333,6 +334,7 @@ impl<'a, R: Abort + Wait> Caller<'a, R> {
     ) -> Result<Result<Loan, Refused>, AllocError>
         requires stands { Stands self.old.ground.now.cell self.old.seat self.old.sample self.old.loan }
         ensures stands { Stands self.new.ground.now.cell self.new.seat self.new.sample self.new.loan }
+        ensures stays { own_part self.new.ground.now.cell self.new.seat ≡ own_part self.old.ground.now.cell self.old.seat }
     {
         let page = list_of(self.alloc, &[fill])?;
         Ok(self.part_turn(from, to, page))
@@ -401,6 +403,7 @@ impl<'a, R: Abort + Wait> Caller<'a, R> {
         requires free { self.old.loan ≡ None }
         requires stands { Stands self.old.ground.now.cell self.old.seat self.old.sample (Some (Lender.Part by from to, back)) }
         ensures stands { Stands self.new.ground.now.cell self.new.seat self.new.sample self.new.loan }
+        ensures stays { own_part self.new.ground.now.cell self.new.seat ≡ own_part self.old.ground.now.cell self.old.seat }
     {
         let done = carry(lane, Op::Write, &mut back);
         let mut change = DirectBackRun {

@@ -7,9 +7,9 @@ use Rattle.worked_ranges.proofs.CallerLemmas.{GoesOn, gives_back}
 use Rattle.worked_ranges.specs.SmallRanges.{IsCaller}
 use Rattle.worked_ranges.proofs.range_caller.Caller.part_back.Goals as goal
 
-pub returns : goal.returns
-returns g c =
+pub returns-clause-stands : goal.returns-clause-stands
+returns-clause-stands g c =
     let t = c.turn-pages.ensures.turned in
     let on : GoesOn (seat_view c.args.self.now.seat) (seat_view c.turn-pages.new.seat) = record { cell = c.turn-pages.ensures.same.0; others = t.others; entry = t.entry; seen = t.seen_is } in
     let P : Option (Lender × Lent) → Type 0 = λ l. IsCaller (cell_view c.args.self.now.ground.now.cell) (seat_view c.turn-pages.new.seat) (seat_claims c.turn-pages.new.seat) c.args.self.now.sample l in
-    record { stands = subst P (sym c.requires.free) (gives_back _ _ _ _ _ _ _ c.requires.stands on t.done.claims_are) }
+    subst P (sym c.requires.free) (gives_back _ _ _ _ _ _ _ c.requires.stands on t.done.claims_are)

@@ -2,15 +2,15 @@ use Rattle.turn_cell.specs.Seats.{seat_view}
 use Rattle.worked_ranges.proofs.CallerLemmas.{GoesOn, goes_on, small_lies, takes}
 use Rattle.worked_ranges.proofs.range_caller.Caller.part_turn.Goals as goal
 
-pub returns-in-Ok : goal.returns-in-Ok
-returns-in-Ok g c =
+pub returns-in-Ok-clause-stands : goal.returns-in-Ok-clause-stands
+returns-in-Ok-clause-stands g c =
     let t = c.in-Ok.ensures.turned in
     let on : GoesOn (seat_view c.args.self.now.seat) (seat_view c.turn.new.seat) = record { cell = c.in-Ok.ensures.same.0; others = t.others; entry = t.entry; seen = t.seen_is } in
     let lies = small_lies _ _ _ _ c.args.self.now.ground.now.stands.small c.expect_loan.ensures.some c.expect_loan.ensures.within in
-    record { stands = takes _ _ _ _ _ _ _ _ _ _ c.requires.stands on t.done.did.claims_are c.expect_loan.ensures.ready lies }
+    takes _ _ _ _ _ _ _ _ _ _ c.requires.stands on t.done.did.claims_are c.expect_loan.ensures.ready lies
 
-pub returns : goal.returns
-returns g c =
+pub returns-clause-stands : goal.returns-clause-stands
+returns-clause-stands g c =
     let t = c.in-Err.ensures.turned in
     let on : GoesOn (seat_view c.args.self.now.seat) (seat_view c.turn.new.seat) = record { cell = c.in-Err.ensures.same.0; others = t.others; entry = t.entry; seen = t.seen_is } in
-    record { stands = goes_on _ _ _ _ _ _ _ c.requires.stands on t.done.did.claims_are }
+    goes_on _ _ _ _ _ _ _ c.requires.stands on t.done.did.claims_are
