@@ -81,6 +81,7 @@ pub mod StakeTruth
 pub mod StampLemmas
 pub mod StampRunLemmas
 pub mod StampedTruth
+pub mod StockLemmas
 pub mod StopLemmas
 pub mod StoreLemmas
 pub mod StoreTruth

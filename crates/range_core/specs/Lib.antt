@@ -43,6 +43,7 @@ pub mod PoolTurns
 pub mod Quiet
 pub mod RangeTruth
 pub mod RangeView
+pub mod ReadyPages
 pub mod Refusals
 pub mod RefusedAlike
 pub mod Reserves

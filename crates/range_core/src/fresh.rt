@@ -1,5 +1,5 @@
 //! Pages of the cache that have no bytes of a block yet. Spare ones are taken first.
-ghost use Rattle.std.specs.Prelude.{◌≡◌, ◌≤◌, [], All, IfOk, OnErr, OnOk, length, replicate};
+ghost use Rattle.std.specs.Prelude.{◌≡◌, ◌≤◌, [], All, IfOk, OnErr, OnOk, length, replicate, vec_len};
 ghost use Rattle.iob_base.specs.Parting.{pages_of};
 ghost use Rattle.range_core.specs.Pages.{IsCachePage, cache_page, zero_page, zeroed_page};
 
@@ -67,6 +67,23 @@ pub(crate) fn pages_of_zeros(
     let mut pages = Vec::with_capacity(alloc, n)?;
     for _ in 0..n {
         pages.push(page_of_zeros(alloc, size, spare)?)?;
+    }
+    Ok(pages)
+}
+
+/// So many pages of the cache, with any bytes. Want of memory is the only error.
+pub(crate) fn any_pages(
+    alloc: Global,
+    size: u32,
+    n: usize,
+    spare: &mut Spare,
+) -> Result<Vec<Page>, AllocError>
+    ensures many { IfOk result (λ pages. vec_len pages ≡ n) }
+    ensures kept { IfOk result (λ pages. All (IsCachePage size) pages.items) }
+{
+    let mut pages = Vec::with_capacity(alloc, n)?;
+    for _ in 0..n {
+        pages.push(any_page(alloc, size, spare)?)?;
     }
     Ok(pages)
 }

@@ -72,7 +72,8 @@ fn one_needed<T: Needs>(test: &T, cell: &Cell) -> usize
     if test.needs(cell) { 1 } else { 0 }
 }
 
-fn count_needs<T: Needs>(test: &T, cells: &Vec<Cell>, low: usize, blocks: usize) -> usize
+/// How many of these blocks need a page.
+pub(crate) fn count_needs<T: Needs>(test: &T, cells: &Vec<Cell>, low: usize, blocks: usize) -> usize
     requires { low + blocks ≤ vec_len cells.now }
     ensures count { result ≡ count_on (T.needs test.now) low blocks cells.now.items }
 {

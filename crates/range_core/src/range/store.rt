@@ -1,17 +1,22 @@
 //! Bytes are laid over blocks in the page cache.
-ghost use Rattle.std.specs.Prelude.{◌≡◌, ◌+◌, ◌-◌, ◌≤◌, vec_len, None, IfErr, OnErr, OnOk, IsSomeAnd, length, unwrap_or};
+ghost use Rattle.std.specs.Prelude.{◌≡◌, ◌+◌, ◌-◌, ◌<◌, ◌≤◌, true, vec_len, All, None, Some, IfErr, OnErr, OnOk, length, unwrap_or};
 ghost use Rattle.io_model.specs.Effects.{overlay};
 ghost use Rattle.range_core.specs.ByteRuns.{HasNext, IsByteRun, IsRunIn, after_bytes, run_between};
-ghost use Rattle.range_core.specs.OnRun.{on_each};
-ghost use Rattle.range_core.specs.Paging.{HavePages};
-ghost use Rattle.range_core.specs.Stores.{dirtied, laid, next_bytes, past};
+ghost use Rattle.range_core.specs.EntryCounts.{one_where};
+ghost use Rattle.range_core.specs.OnRun.{count_on, on_each};
+ghost use Rattle.range_core.specs.Pages.{IsCachePage};
+ghost use Rattle.range_core.specs.Paging.{HasWholePage, filled, lacks_page};
+ghost use Rattle.range_core.specs.ReadyPages.{IsReadyFor};
+ghost use Rattle.range_core.specs.Stores.{dirtied, next_bytes, past, stored};
 
 use super::Range;
+use super::store_zeros::clear_page;
 use crate::cell::Cell;
 use crate::claims::Claims;
 use crate::cookie::stale_stop;
 use crate::fault::EventFault;
-use crate::paging::{NeedsPage, give_pages};
+use crate::fresh::any_pages;
+use crate::paging::{NeedsPage, count_needs};
 use crate::parts::{BlockPart, ByteRun, block_part, byte_run, is_in_part};
 use crate::sample::Sample;
 use crate::stamps::stamp_done;
@@ -58,31 +63,105 @@ fn write_page(page: Page, part: BlockPart, iov: &mut IovIter) -> Page
     }
 }
 
-fn store_part(cell: &mut Cell, part: BlockPart, iov: &mut IovIter)
-    requires page { IsSomeAnd cell.old.page (λ p. part.at + part.length ≤ length p.bytes) }
-    requires room { HasNext iov.old part.length }
-    ensures cell { cell.new ≡ dirtied (overlay part.at (next_bytes iov.old part.length)) cell.old }
-    ensures iov { iov.new ≡ past iov.old part.length }
+/// A page of any bytes, with zeros around a part.
+fn clear_around(size: u32, page: Page, part: BlockPart) -> Page
+    requires page { IsCachePage size page }
+    requires inside { part.at + part.length ≤ size }
+    ensures { IsReadyFor size part result }
 {
-    let Some(page) = cell.page.take() else {
+    let end = part.at + part.length;
+    let before = BlockPart {
+        at: 0,
+        length: part.at,
+    };
+    let behind = BlockPart {
+        at: end,
+        length: size as usize - end,
+    };
+    let first = clear_page(page, before);
+    clear_page(first, behind)
+}
+
+/// The next page of a stock, with zeros around a part.
+fn next_page(size: u32, part: BlockPart, stock: &mut Vec<Page>) -> Page
+    requires some { 0 < vec_len stock.old }
+    requires kept { All (IsCachePage size) stock.old.items }
+    requires inside { part.at + part.length ≤ size }
+    ensures page { IsReadyFor size part result }
+    ensures left { vec_len stock.new + 1 ≡ vec_len stock.old }
+    ensures rest { All (IsCachePage size) stock.new.items }
+{
+    let Some(page) = stock.pop() else {
         unreachable!()
     };
+    clear_around(size, page, part)
+}
+
+fn put_part(cell: &mut Cell, page: Page, part: BlockPart, iov: &mut IovIter)
+    requires whole { part.at + part.length ≤ length page.bytes }
+    requires room { HasNext iov.old part.length }
+    ensures cell { cell.new ≡ record cell.old { page = Some (record page { bytes = overlay part.at (next_bytes iov.old part.length) page.bytes }); dirty = true } }
+    ensures iov { iov.new ≡ past iov.old part.length }
+{
     cell.page = Some(write_page(page, part, iov));
     cell.dirty = true;
 }
 
-fn store_run(cells: &mut Vec<Cell>, first: u64, run: ByteRun, iov: &mut IovIter)
+/// Lays the iov's next bytes over a part of a block without a page, in the next page of a stock.
+fn store_new(cell: &mut Cell, size: u32, part: BlockPart, stock: &mut Vec<Page>, iov: &mut IovIter)
+    requires none { cell.old.page ≡ None }
+    requires inside { part.at + part.length ≤ size }
+    requires some { 0 < vec_len stock.old }
+    requires kept { All (IsCachePage size) stock.old.items }
+    requires room { HasNext iov.old part.length }
+    ensures cell { cell.new ≡ dirtied (overlay part.at (next_bytes iov.old part.length)) (filled size cell.old) }
+    ensures left { vec_len stock.new + 1 ≡ vec_len stock.old }
+    ensures rest { All (IsCachePage size) stock.new.items }
+    ensures iov { iov.new ≡ past iov.old part.length }
+{
+    let page = next_page(size, part, stock);
+    put_part(cell, page, part, iov);
+}
+
+/// Lays the iov's next bytes over a part of a block, in its own page or in the next one of a stock.
+fn store_part(cell: &mut Cell, size: u32, part: BlockPart, stock: &mut Vec<Page>, iov: &mut IovIter)
+    requires own { HasWholePage size cell.old }
+    requires inside { part.at + part.length ≤ size }
+    requires some { lacks_page cell.old ≡ true → 0 < vec_len stock.old }
+    requires kept { All (IsCachePage size) stock.old.items }
+    requires room { HasNext iov.old part.length }
+    ensures cell { cell.new ≡ dirtied (overlay part.at (next_bytes iov.old part.length)) (filled size cell.old) }
+    ensures left { vec_len stock.new + one_where (lacks_page cell.old) ≡ vec_len stock.old }
+    ensures rest { All (IsCachePage size) stock.new.items }
+    ensures iov { iov.new ≡ past iov.old part.length }
+{
+    let Some(page) = cell.page.take() else {
+        return store_new(cell, size, part, stock, iov);
+    };
+    put_part(cell, page, part, iov);
+}
+
+fn store_run(
+    cells: &mut Vec<Cell>,
+    first: u64,
+    run: ByteRun,
+    stock: &mut Vec<Page>,
+    iov: &mut IovIter,
+)
     requires run { IsByteRun run }
     requires low { first ≤ run.first }
     requires high { run.first + run.blocks ≤ first + vec_len cells.old }
-    requires pages { HavePages run first cells.old.items }
+    requires pages { All (HasWholePage run.size) cells.old.items }
+    requires stock { vec_len stock.old ≡ count_on lacks_page (run.first - first) run.blocks cells.old.items }
+    requires kept { All (IsCachePage run.size) stock.old.items }
     requires room { HasNext iov.old (run.to - run.from) }
-    ensures cells { cells.new.items ≡ on_each (laid run (next_bytes iov.old (run.to - run.from))) 0 (run.first - first) run.blocks cells.old.items }
+    ensures cells { cells.new.items ≡ on_each (stored run (next_bytes iov.old (run.to - run.from))) 0 (run.first - first) run.blocks cells.old.items }
     ensures iov { iov.new ≡ past iov.old (run.to - run.from) }
 {
     let low = (run.first - first) as usize;
     for k in 0..run.blocks {
-        store_part(&mut cells[low + k], block_part(run, k), iov);
+        let part = block_part(run, k);
+        store_part(&mut cells[low + k], run.size, part, stock, iov);
     }
 }
 
@@ -121,18 +200,11 @@ impl Range {
         };
         let alloc = self.log.allocator();
         let low = (run.first - self.first) as usize;
-        let Ok(()) = give_pages(
-            alloc,
-            run.size,
-            &NeedsPage {},
-            &mut self.cells,
-            low,
-            run.blocks,
-            &mut self.spare,
-        ) else {
+        let many = count_needs(&NeedsPage {}, &self.cells, low, run.blocks);
+        let Ok(mut stock) = any_pages(alloc, run.size, many, &mut self.spare) else {
             return Err(EventFault::NoMemory);
         };
-        store_run(&mut self.cells, self.first, run, iov);
+        store_run(&mut self.cells, self.first, run, &mut stock, iov);
         self.log.add(run.first, run.blocks, stamp_done(by));
         Ok(())
     }

@@ -18,7 +18,8 @@ use crate::stamps::stamp_done;
 use iob_base::{Items, Page, Tag};
 use turn_cell::Change;
 
-fn clear_page(page: Page, part: BlockPart) -> Page
+/// A page with zeros in a part of it.
+pub(super) fn clear_page(page: Page, part: BlockPart) -> Page
     requires { part.at + part.length ≤ length page.bytes }
     ensures { result ≡ record page { bytes = overlay part.at (zeros part.length) page.bytes } }
 {

@@ -3,25 +3,22 @@ use Rattle.iob_base.specs.declared.stamp.Stamp.{Stamp}
 use Rattle.turn_cell.specs.Seats.{seat_claims, seat_view}
 use Rattle.range_core.specs.ByteRuns.{IsRunIn, after_bytes}
 use Rattle.range_core.specs.OnRun.{on_each}
-use Rattle.range_core.specs.Paging.{HavePages, HaveWholePages, HasWholePage, fill_each}
+use Rattle.range_core.specs.Paging.{HaveWholePages, HasWholePage}
 use Rattle.range_core.specs.RangeView.{RangeView, range_view}
 use Rattle.range_core.specs.Stamps.{done_by, stamps_from}
 use Rattle.range_core.specs.Stores.{next_bytes, stored}
 use Rattle.range_core.specs.declared.cell.Cell.{Cell}
 use Rattle.range_core.proofs.KeptPlaces.{kept_sound}
 use Rattle.range_core.proofs.OnRunLemmas.{length-on_each}
-use Rattle.range_core.proofs.PagingLemmas.{filled_pages}
 use Rattle.range_core.proofs.SoundLemmas.{room_for_returns}
-use Rattle.range_core.proofs.StoreLemmas.{stored_keeps, stored_twice}
+use Rattle.range_core.proofs.StoreLemmas.{stored_keeps}
 use Rattle.range_core.proofs.range.Range.store_blocks.Goals as goal
 
 pub store_run-requires-clause-high : goal.store_run-requires-clause-high
 store_run-requires-clause-high c =
-    let low : ℕ = c.args.run.first - c.self.inside.first in
     let V : RangeView → Type 0 = λ v. IsRunIn v c.args.run in
     let here = subst V (sym c.self.view_is) c.requires.run in
-    let many : length c.give_pages.new.cells.items ≡ length c.self.inside.cells.items = ap length c.in-Ok-give_pages.ensures.filled ∙ length-on_each (fill_each c.args.run) 0 low c.args.run.blocks c.self.inside.cells.items in
-    omega (arith, many, here.lies.high, c.give_pages.new.cells.ok.0)
+    omega (arith, here.lies.high, c.self.inside.cells.ok.0)
 
 pub store_run-requires-clause-pages : goal.store_run-requires-clause-pages
 store_run-requires-clause-pages c =
@@ -30,18 +27,17 @@ store_run-requires-clause-pages c =
     let here = subst V (sym c.self.view_is) c.requires.run in
     let whole = subst HaveWholePages (sym c.self.view_is) c.requires.pages in
     let S : ℕ → Type 0 = λ n. All (HasWholePage n) r.cells.items in
-    let P : List Cell → Type 0 = λ xs. HavePages c.args.run r.first xs in
-    subst P (sym c.in-Ok-give_pages.ensures.filled) (filled_pages c.args.run (c.args.run.first - r.first) r.cells.items (subst S (sym (ap (λ x. x.size) here.is)) whole))
+    subst S (sym (ap (λ x. x.size) here.is)) whole
 
 -- the stamps that the log has in the end
-log_is : (c : goal.After-add) → c.add.new.self.items ≡ c.self.inside.log.items ++ stamps_from c.args.run.first c.args.run.blocks (done_by c.args.by)
+log_is : (c : goal.After-drop-stock) → c.add.new.self.items ≡ c.self.inside.log.items ++ stamps_from c.args.run.first c.args.run.blocks (done_by c.args.by)
 log_is c =
     c.add.ensures.items ∙ ap (λ (st : Stamp). c.reserve.new.self.items ++ stamps_from c.args.run.first c.args.run.blocks st) c.stamp_done.ensures
     ∙ ap (λ l. l ++ stamps_from c.args.run.first c.args.run.blocks (done_by c.args.by)) c.reserve.ensures.items
 
 -- the blocks in the end
-cells_are : (c : goal.After-add) → c.store_run.new.cells.items ≡ on_each (stored c.args.run (next_bytes c.args.iov.now (c.args.run.to - c.args.run.from))) 0 (c.args.run.first - c.self.inside.first) c.args.run.blocks c.self.inside.cells.items
-cells_are c = stored_twice c.args.run (next_bytes c.args.iov.now (c.args.run.to - c.args.run.from)) (c.args.run.first - c.self.inside.first) c.self.inside.cells.items c.give_pages.new.cells.items c.store_run.new.cells.items c.in-Ok-give_pages.ensures.filled c.store_run.ensures.cells
+cells_are : (c : goal.After-drop-stock) → c.store_run.new.cells.items ≡ on_each (stored c.args.run (next_bytes c.args.iov.now (c.args.run.to - c.args.run.from))) 0 (c.args.run.first - c.self.inside.first) c.args.run.blocks c.self.inside.cells.items
+cells_are c = c.store_run.ensures.cells
 
 pub invariant_of-self-2 : goal.invariant_of-self-2
 invariant_of-self-2 c =
