@@ -1,5 +1,5 @@
 -- Pages of the cache: one of zeros is one, and one whose bytes were made zero or copied is what it should be.
-use Rattle.std.proofs.Common.{◌≡◌, ℕ, List, refl, length}
+use Rattle.std.proofs.Common.{◌≡◌, ℕ, List, refl}
 use Rattle.std.proofs.lemmas.List.{length-replicate}
 use Rattle.iob_base.specs.declared.sector.Page.{Page}
 use Rattle.io_model.specs.Contents.{zeros}

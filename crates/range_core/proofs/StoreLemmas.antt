@@ -1,8 +1,7 @@
 -- The next bytes of an iov are laid over the blocks of a run one after the other.
-use Rattle.std.proofs.Common.{◌≡◌, ℕ, ◌+◌, ◌-◌, ◌<◌, ◌≤◌, Option, Some, None, List, length, take, drop, get_or, refl, sym, ◌∙◌, ap, subst, arith, length-drop}
-use Rattle.std.specs.Prelude.{IsSomeAnd, slice_get}
+use Rattle.std.proofs.Common.{◌≡◌, ℕ, ◌+◌, ◌-◌, ◌<◌, ◌≤◌, Option, Some, None, List, length, take, drop, sym, ◌∙◌, ap, subst, arith, length-drop}
+use Rattle.std.specs.Prelude.{IsSomeAnd}
 use Rattle.std.proofs.lemmas.List.{drop-drop, drop-take, length-take-le, take-take}
-use Rattle.std.proofs.lemmas.Option.{slice_get-get_or}
 use Rattle.iob_base.specs.declared.sector.Page.{Page}
 use Rattle.io_model.specs.Effects.{overlay}
 use Rattle.io_model.specs.Lists.{bytes_between}
@@ -10,15 +9,12 @@ use Rattle.io_model.specs.Parts.{part_in, span}
 use Rattle.iov_iter.specs.IovView.{IovView}
 use Rattle.range_core.specs.BlockTruth.{IsWholePage}
 use Rattle.range_core.specs.ByteRuns.{HasNext, IsByteRun, part_at}
-use Rattle.range_core.specs.OnRun.{on_each}
-use Rattle.range_core.specs.Paging.{HavePages, fill_each, lacks_page}
+use Rattle.range_core.specs.Paging.{lacks_page}
 use Rattle.range_core.specs.Stores.{dirtied, laid, next_bytes, past, stored}
 use Rattle.range_core.specs.declared.cell.Cell.{Cell}
-use Rattle.range_core.specs.declared.parts.BlockPart.{BlockPart}
 use Rattle.range_core.specs.declared.parts.ByteRun.{ByteRun}
 use Rattle.range_core.proofs.ByteRunLemmas.{begun, next_part}
 use Rattle.range_core.proofs.KeptPlaces.{KeepsPlaces}
-use Rattle.range_core.proofs.OnRunLemmas.{on_each-next, on_each-twice}
 use Rattle.range_core.proofs.PagingLemmas.{filled_keeps}
 
 -- a piece of the first bytes after a place
@@ -74,25 +70,11 @@ pub part_fits : (size at n : ℕ) (o : Option Page) → at + n ≤ size → IsSo
 part_fits size at n None h o = absurd o
 part_fits size at n (Some p) h o = omega (arith, o)
 
--- the next block of a run has a page that holds its part
-pub part_page : (run : ByteRun) (first : ℕ) (f : ℕ → Cell → Cell) (cells now : List Cell) (k : ℕ) (c : Cell) (part : BlockPart) → HavePages run first cells → k < run.blocks → run.first - first + run.blocks ≤ length cells
-    → now ≡ on_each f 0 (run.first - first) k cells → c ≡ get_or now (run.first - first + k) c → part.at + part.length ≤ run.size → IsSomeAnd c.page (λ p. part.at + part.length ≤ length p.bytes)
-part_page run first f cells now k c part have l within are at h =
-    let low : ℕ = run.first - first in
-    let here : c ≡ get_or cells (low + k) c = at ∙ ap (λ xs. get_or xs (low + k) c) are ∙ on_each-next f 0 low k (low + k) cells c refl (omega arith) in
-    let there : slice_get cells (low + k) ≡ Some c = slice_get-get_or cells (low + k) c (omega arith) ∙ ap Some (sym here) in
-    part_fits run.size part.at part.length c.page h (have k c l there)
-
 -- a block of a store keeps its place
 pub stored_keeps : (run : ByteRun) (bytes : List ℕ) → KeepsPlaces (stored run bytes)
 stored_keeps run bytes =
     let filled = filled_keeps lacks_page run.size in
     record { kind = filled.kind; sector = filled.sector; away = filled.away }
-
--- blocks that got pages first, over which bytes were laid then
-pub stored_twice : (run : ByteRun) (bytes : List ℕ) (low : ℕ) (cells filled_cells stored_cells : List Cell) → filled_cells ≡ on_each (fill_each run) 0 low run.blocks cells → stored_cells ≡ on_each (laid run bytes) 0 low run.blocks filled_cells
-    → stored_cells ≡ on_each (stored run bytes) 0 low run.blocks cells
-stored_twice run bytes low cells filled_cells stored_cells e w = w ∙ ap (on_each (laid run bytes) 0 low run.blocks) e ∙ on_each-twice (fill_each run) (laid run bytes) 0 low run.blocks cells
 
 -- as many bytes as a store asks for
 pub length-next_bytes : (v : IovView) (n : ℕ) → HasNext v n → length (next_bytes v n) ≡ n

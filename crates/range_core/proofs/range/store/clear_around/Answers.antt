@@ -1,7 +1,3 @@
-use Rattle.std.proofs.Common.{ap, ◌∙◌}
-use Rattle.iob_base.specs.declared.sector.Page.{Page}
-use Rattle.io_model.specs.Contents.{zeros}
-use Rattle.io_model.specs.Effects.{overlay}
 use Rattle.range_core.proofs.StockLemmas.{around_twice}
 use Rattle.range_core.proofs.range.store.clear_around.Goals as goal
 

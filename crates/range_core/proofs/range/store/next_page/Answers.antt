@@ -1,4 +1,4 @@
-use Rattle.std.proofs.Common.{◌≡◌, ◌-◌, List, Some, All, sym, ◌∙◌, subst, arith, take, get_or, length}
+use Rattle.std.proofs.Common.{◌≡◌, ◌-◌, List, Some, All, sym, ◌∙◌, subst, arith, get_or}
 use Rattle.std.proofs.lemmas.List.Elements.{All-take}
 use Rattle.iob_base.specs.declared.sector.Page.{Page}
 use Rattle.range_core.specs.Pages.{IsCachePage}
