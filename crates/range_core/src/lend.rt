@@ -8,12 +8,13 @@ ghost use Rattle.range_core.specs.OnRun.{on_each, on_run};
 use crate::cell::Cell;
 use crate::claims::Claims;
 use crate::lending::{Away, Held, Lender, Lent};
+use crate::spare::{Spare, shed_page};
 use io_model::Kind;
 use iob_base::{Part, Parts, Sector};
 use std::snapshot::Snapshot;
 
 // Takes the sector of a block, and marks the block as lent.
-fn take_sector(cell: &mut Cell, away: Away) -> Sector
+fn take_sector(cell: &mut Cell, away: Away, spare: &mut Spare) -> Sector
     requires { IsSome cell.old.sector }
     ensures cell { cell.new ≡ lent_cell away cell.old }
     ensures sector { Some result ≡ cell.old.sector }
@@ -25,21 +26,21 @@ fn take_sector(cell: &mut Cell, away: Away) -> Sector
     match away.lender {
         Lender::Reading => {}
         Lender::Writeback => cell.dirty = false,
-        Lender::Direct { .. } | Lender::Part { .. } => cell.page = None,
+        Lender::Direct { .. } | Lender::Part { .. } => shed_page(cell, spare),
     }
     sector
 }
 
-fn lend_one(cell: &mut Cell, part: &mut Part, away: Away)
+fn lend_one(cell: &mut Cell, part: &mut Part, away: Away, spare: &mut Spare)
     requires { IsSome cell.old.sector }
     ensures cell { cell.new ≡ lent_cell away cell.old }
     ensures part { part.new ≡ part_of cell.old part.old.page }
 {
-    part.sector = take_sector(cell, away);
+    part.sector = take_sector(cell, away, spare);
 }
 
 /// Fills the sectors of the blocks from the place `low` on into these parts, in order.
-fn lend_run(cells: &mut Vec<Cell>, low: usize, parts: &mut [Part], away: Away)
+fn lend_run(cells: &mut Vec<Cell>, low: usize, parts: &mut [Part], away: Away, spare: &mut Spare)
     requires within { low + length parts.old ≤ vec_len cells.old }
     requires here { HaveSectors cells.old.items low (length parts.old) }
     ensures cells { cells.new.items ≡ on_run (lent_cell away) low (length parts.old) cells.old.items }
@@ -47,23 +48,29 @@ fn lend_run(cells: &mut Vec<Cell>, low: usize, parts: &mut [Part], away: Away)
 {
     let mut at = low;
     for part in parts.iter_mut() {
-        lend_one(&mut cells[at], part, away);
+        lend_one(&mut cells[at], part, away, spare);
         at += 1;
     }
 }
 
-fn lend_list(cells: &mut Vec<Cell>, low: usize, mut pages: Parts, away: Away) -> Parts
+fn lend_list(
+    cells: &mut Vec<Cell>,
+    low: usize,
+    mut pages: Parts,
+    away: Away,
+    spare: &mut Spare,
+) -> Parts
     requires within { low + length (pages_of pages) ≤ vec_len cells.old }
     requires here { HaveSectors cells.old.items low (length (pages_of pages)) }
     ensures cells { cells.new.items ≡ on_run (lent_cell away) low (length (pages_of pages)) cells.old.items }
     ensures parts { result ≡ parts_of (drop low cells.old.items) (pages_of pages) }
 {
-    lend_run(cells, low, pages.as_mut_slice(), away);
+    lend_run(cells, low, pages.as_mut_slice(), away, spare);
     pages
 }
 
 /// Lends the blocks from the place `low` on, as many as there are pages. Their sectors go out with the pages, in order,
-/// and the claims name them from now on. The first block is `block`.
+/// and the claims name them from now on. The first block is `block`. Pages that blocks lose are kept.
 pub(crate) fn lend_blocks(
     cells: &mut Vec<Cell>,
     low: usize,
@@ -71,6 +78,7 @@ pub(crate) fn lend_blocks(
     pages: Parts,
     away: Away,
     claims: &mut Claims,
+    spare: &mut Spare,
 ) -> Lent
     requires some { 0 < length (pages_of pages) }
     requires within { low + length (pages_of pages) ≤ vec_len cells.old }
@@ -83,7 +91,7 @@ pub(crate) fn lend_blocks(
     let lent = Lent {
         ticket: away.ticket,
         block,
-        parts: lend_list(cells, low, pages, away),
+        parts: lend_list(cells, low, pages, away, spare),
     };
     take_hold(claims, &lent, away.lender, kind);
     lent

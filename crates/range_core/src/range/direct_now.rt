@@ -17,6 +17,7 @@ use crate::claims::Claims;
 use crate::fault::EventFault;
 use crate::fresh::zero_bytes;
 use crate::run::run_at;
+use crate::spare::{Spare, shed_page};
 use crate::stamps::stamp_done;
 use crate::stops::{IsAway, IsDirty, first_stop};
 use fault_device::{Done, Lane};
@@ -118,22 +119,22 @@ fn fill_parts(size: u32, cells: &Vec<Cell>, low: usize, n: usize, parts: &mut [P
 }
 
 /// A mapped block loses its page.
-fn drop_mapped_page(cell: &mut Cell)
+fn drop_mapped_page(cell: &mut Cell, spare: &mut Spare)
     ensures { cell.new ≡ without_mapped_page cell.old }
 {
     if !is_mapped_kind(cell.kind) {
         return;
     }
-    cell.page = None;
+    shed_page(cell, spare);
 }
 
 /// Each mapped block of the run loses its page.
-fn drop_mapped_run(cells: &mut Vec<Cell>, low: usize, n: usize)
+fn drop_mapped_run(cells: &mut Vec<Cell>, low: usize, n: usize, spare: &mut Spare)
     requires { low + n ≤ vec_len cells.old }
     ensures { cells.new.items ≡ on_run without_mapped_page low n cells.old.items }
 {
     for i in 0..n {
-        drop_mapped_page(&mut cells[low + i]);
+        drop_mapped_page(&mut cells[low + i], spare);
     }
 }
 
@@ -193,7 +194,7 @@ impl Range {
         }
         let size = self.geometry.block_size();
         fill_parts(size, &self.cells, at, n, pages.as_mut_slice());
-        drop_mapped_run(&mut self.cells, at, n);
+        drop_mapped_run(&mut self.cells, at, n, &mut self.spare);
         self.log.add(block, n, stamp_done(by));
         Ok(n as u64)
     }

@@ -230,7 +230,15 @@ impl Range {
         };
         self.tickets = self.tickets.wrapping_add(1);
         let low = (block - self.first) as usize;
-        Ok(Direct::Lent(lend_blocks(&mut self.cells, low, block, pages, away, claims)))
+        Ok(Direct::Lent(lend_blocks(
+            &mut self.cells,
+            low,
+            block,
+            pages,
+            away,
+            claims,
+            &mut self.spare,
+        )))
     }
 
     /// Brings blocks home that were lent by `lend_direct` for the same tag and op, or, for a write, a block that `lend_part`

@@ -178,7 +178,15 @@ impl Range {
             },
         };
         self.tickets = self.tickets.wrapping_add(1);
-        Ok(lend_blocks(&mut self.cells, low, run.first, page, away, claims))
+        Ok(lend_blocks(
+            &mut self.cells,
+            low,
+            run.first,
+            page,
+            away,
+            claims,
+            &mut self.spare,
+        ))
     }
 
     /// Lends the sector of a block with a caller's own page, for a write from one place of the file up to another, both in

@@ -193,7 +193,15 @@ impl Range {
             lender: Lender::Reading,
         };
         self.tickets = self.tickets.wrapping_add(1);
-        Ok(lend_blocks(&mut self.cells, low, block, parts, away, claims))
+        Ok(lend_blocks(
+            &mut self.cells,
+            low,
+            block,
+            parts,
+            away,
+            claims,
+            &mut self.spare,
+        ))
     }
 
     /// Takes blocks back from a read of them. Where it did not fail they have its pages from now on, uptodate and clean.

@@ -258,7 +258,15 @@ impl Range {
             lender: Lender::Writeback,
         };
         self.tickets = self.tickets.wrapping_add(1);
-        Ok(lend_blocks(&mut self.cells, low, block, parts, away, claims))
+        Ok(lend_blocks(
+            &mut self.cells,
+            low,
+            block,
+            parts,
+            away,
+            claims,
+            &mut self.spare,
+        ))
     }
 
     /// Takes blocks back from a write of them, and answers how many were written, and their list, empty. Where the write
