@@ -1,0 +1,28 @@
+-- Where the stripes of a file lie.
+use Rattle.std.proofs.Common.{◌≡◌, ℕ, zero, suc, ◌+◌, ◌*◌, ◌<◌, ◌≤◌, List, [], ◌∷◌, length, get_or, refl, ap, subst, arith}
+use Rattle.std.proofs.lemmas.List.{get_or_past}
+use Rattle.std.specs.Prelude.{◌/◌}
+use Rattle.iob_base.specs.declared.stamp.FileId.{FileId}
+use Rattle.mini_fs.specs.MountView.{MountView, LieInOrder, HasBlock, HasFile, IsLaidOut, no_file, file_at, size_cells, stripe_at, stripes_of}
+use Rattle.mini_fs.specs.declared.file.FilePlace.{FilePlace}
+
+lie-above : (fs : List FilePlace) (from size stripes sizes : ℕ) → LieInOrder from size fs stripes sizes → from ≤ stripes
+lie-above [] from size stripes sizes lies = let e = lies.0 in omega arith
+lie-above (f ∷ fs) from size stripes sizes lies = let h = lie-above fs (from + stripes_of f.blocks) (size + size_cells f.size) stripes sizes lies.2 in omega arith
+
+-- the last stripe of each file is one of them
+lie-within : (fs : List FilePlace) (from size stripes sizes k i : ℕ) → LieInOrder from size fs stripes sizes → i < stripes_of (get_or fs k no_file).blocks → (get_or fs k no_file).stripe + i < stripes
+lie-within [] from size stripes sizes k i lies below = absurd (omega arith)
+lie-within (f ∷ fs) from size stripes sizes zero i lies below =
+    let e = lies.0 in
+    let h = lie-above fs (from + stripes_of f.blocks) (size + size_cells f.size) stripes sizes lies.2 in
+    omega arith
+lie-within (f ∷ fs) from size stripes sizes (suc k) i lies below = lie-within fs (from + stripes_of f.blocks) (size + size_cells f.size) stripes sizes k i lies.2 below
+
+-- a file with a block exists
+pub has_file : (m : MountView) (file : FileId) (b : ℕ) → HasBlock m file b → HasFile m file
+has_file m file b has = grind (arith, get_or_past)
+
+-- the stripe of a block is one of the mount's
+pub stripe-within : (m : MountView) (file : FileId) (b : ℕ) → IsLaidOut m → HasBlock m file b → stripe_at m file b < length m.stripes
+stripe-within m file b laid has = lie-within m.files 0 0 (length m.stripes) (length m.sizes) file.0 (b / 64) laid.order (omega arith)

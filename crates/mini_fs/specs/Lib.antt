@@ -1,0 +1,5 @@
+pub mod MountView
+pub mod PassView
+pub mod Turns
+pub mod Tickets
+pub mod Holds

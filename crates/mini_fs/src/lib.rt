@@ -1,0 +1,30 @@
+//! The file system under the calls: a mount, and what callers on any threads go to it with.
+//!
+//! A mount has the blocks of its files in stripes, each the value of a turn cell, a lock for each file, and the size of a
+//! file that has one as the value of a cell of its own. It holds no seat, so threads share it. A caller goes to it with a
+//! pass, which has a seat at each cell and lock.
+//!
+//! - `file`, `mount`: where a file lies, and the mount
+//! - `pass`: a caller's seats and numbers
+//! - `turn`: one turn of a pass, at a stripe or at a size
+//! - `ticket`: the seat that carries a loan, and the turns that lend and take back
+//! - `hold`, `locks`: a class of a file's lock, and how a pass takes and leaves it
+//! - `crossing`: a mount is shared by threads
+#![tactic(auto)]
+
+mod crossing;
+mod file;
+mod hold;
+mod locks;
+mod mount;
+mod pass;
+mod ticket;
+mod turn;
+
+pub use crossing::mounts_are_shared;
+pub use file::FilePlace;
+pub use hold::{CachedHold, DirectHold, ExclusiveHold};
+pub use locks::WordBusy;
+pub use mount::Mount;
+pub use pass::Pass;
+pub use ticket::Ticket;
