@@ -1,9 +1,11 @@
 -- Where the stripes of a file lie.
-use Rattle.std.proofs.Common.{◌≡◌, ℕ, zero, suc, ◌+◌, ◌*◌, ◌<◌, ◌≤◌, List, [], ◌∷◌, length, get_or, refl, ap, subst, arith}
+use Rattle.std.proofs.Common.{◌≡◌, ℕ, zero, suc, ◌+◌, ◌<◌, ◌≤◌, List, [], ◌∷◌, length, get_or, refl, sym, ◌∙◌, arith}
 use Rattle.std.proofs.lemmas.List.{get_or_past}
-use Rattle.std.specs.Prelude.{◌/◌}
+use Rattle.std.specs.Prelude.{◌/◌, Option, Some, None}
+use Rattle.std.proofs.lemmas.Option.{none-some}
+use Rattle.mini_fs.specs.SizeTurns.{HasSize}
 use Rattle.iob_base.specs.declared.stamp.FileId.{FileId}
-use Rattle.mini_fs.specs.MountView.{MountView, LieInOrder, HasBlock, HasFile, IsLaidOut, no_file, file_at, size_cells, stripe_at, stripes_of}
+use Rattle.mini_fs.specs.MountView.{MountView, IsNumbered, LieInOrder, HasBlock, HasFile, IsLaidOut, no_file, file_at, size_cells, stripe_at, stripes_of}
 use Rattle.mini_fs.specs.declared.file.FilePlace.{FilePlace}
 
 lie-above : (fs : List FilePlace) (from size stripes sizes : ℕ) → LieInOrder from size fs stripes sizes → from ≤ stripes
@@ -26,3 +28,27 @@ has_file m file b has = grind (arith, get_or_past)
 -- the stripe of a block is one of the mount's
 pub stripe-within : (m : MountView) (file : FileId) (b : ℕ) → IsLaidOut m → HasBlock m file b → stripe_at m file b < length m.stripes
 stripe-within m file b laid has = lie-within m.files 0 0 (length m.stripes) (length m.sizes) file.0 (b / 64) laid.order (omega arith)
+
+numbered : (n at : ℕ) (cell : Option ℕ) → IsNumbered n cell → cell ≡ Some at → (at ≡ n) × (size_cells cell ≡ 1)
+numbered n at None is e = absurd (none-some at e)
+numbered n at (Some cell) is e = let same : cell ≡ at = cc in (sym same ∙ is, refl)
+
+size-above : (fs : List FilePlace) (from size stripes sizes : ℕ) → LieInOrder from size fs stripes sizes → size ≤ sizes
+size-above [] from size stripes sizes lies = let e = lies.1 in omega arith
+size-above (f ∷ fs) from size stripes sizes lies = let h = size-above fs (from + stripes_of f.blocks) (size + size_cells f.size) stripes sizes lies.2 in omega arith
+
+lies-size : (fs : List FilePlace) (from size stripes sizes k at : ℕ) → LieInOrder from size fs stripes sizes → (get_or fs k no_file).size ≡ Some at → at < sizes
+lies-size [] from size stripes sizes k at lies e = absurd (none-some at e)
+lies-size (f ∷ fs) from size stripes sizes zero at lies e =
+    let n = numbered size at f.size lies.1 e in
+    let h = size-above fs (from + stripes_of f.blocks) (size + size_cells f.size) stripes sizes lies.2 in
+    omega (arith, n.0, n.1, h)
+lies-size (f ∷ fs) from size stripes sizes (suc k) at lies e = lies-size fs (from + stripes_of f.blocks) (size + size_cells f.size) stripes sizes k at lies.2 e
+
+-- the size cell of a file is one of the mount's
+pub size-within : (m : MountView) (file : FileId) (at : ℕ) → IsLaidOut m → (file_at m file).size ≡ Some at → at < length m.sizes
+size-within m file at laid e = lies-size m.files 0 0 (length m.stripes) (length m.sizes) file.0 at laid.order e
+
+-- a file with a size exists
+pub sized_file : (m : MountView) (file : FileId) → HasSize m file → HasFile m file
+sized_file m file has = grind (arith, get_or_past)

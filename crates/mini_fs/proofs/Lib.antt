@@ -4,3 +4,4 @@ pub mod Seats
 pub mod Loans
 pub mod Firsts
 pub mod Tries
+pub mod SizeSeats

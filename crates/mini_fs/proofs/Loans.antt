@@ -1,11 +1,11 @@
 -- A turn that a pass makes with a ticket's loan, between the join of the ticket's seat and the cut of the next.
-use Rattle.std.proofs.Common.{◌≡◌, ℕ, ◌+◌, ◌-◌, ◌<◌, ◌≤◌, List, [], ◌++◌, length, inl, inr, Some, None, Option, refl, sym, ap, ◌∙◌, subst, arith, append-nil, append_assoc, ◌∷◌}
+use Rattle.std.proofs.Common.{◌≡◌, ℕ, ◌+◌, ◌<◌, List, [], ◌++◌, length, inl, inr, Some, None, Option, refl, sym, ap, ◌∙◌, subst, arith, append-nil, append_assoc, ◌∷◌}
 use Rattle.turn_cell.specs.Stakes.{Begins}
 use Rattle.turn_cell.specs.Views.{SeatView, Turned, joined, kept_part, longer, new_part}
 use Rattle.std.specs.Prelude.{slice_get, Bool, true, false, nat_lt, if◌then◌else◌}
 use Rattle.std.proofs.lemmas.Bool.Decides.{nat_tests}
 use Rattle.turn_cell.proofs.Beginnings.{begins-length, begins-self}
-use Rattle.range_core.specs.ClaimsView.{ClaimsView, MayMerge, either_held, loan_claims, merged_claims, released}
+use Rattle.range_core.specs.ClaimsView.{ClaimsView, MayMerge, either_held, merged_claims, released}
 use Rattle.range_core.specs.RangeTruth.{RangeTruth}
 use Rattle.range_core.specs.RangeView.{RangeView}
 use Rattle.range_core.specs.declared.entry.Entry.{Entry}

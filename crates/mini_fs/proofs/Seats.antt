@@ -1,5 +1,5 @@
 -- A pass whose seat at one stripe, or at one lock, changed.
-use Rattle.std.proofs.Common.{◌≡◌, ◌≢◌, ℕ, ◌<◌, ◌⊎◌, inl, inr, List, length, map, set, get_or, Some, None, Option, refl, sym, ap, ◌∙◌, subst, arith}
+use Rattle.std.proofs.Common.{◌≡◌, ℕ, ◌<◌, inl, inr, List, length, map, set, get_or, Some, None, Option, refl, sym, ap, ◌∙◌, subst, arith}
 use Rattle.std.proofs.lemmas.List.{map-set, set-set, length-map}
 use Rattle.std.proofs.lemmas.Option.{slice_get_read}
 use Rattle.atomic_table.specs.Seated.{TableId}
@@ -13,8 +13,8 @@ use Rattle.iob_base.specs.declared.stamp.FileId.{FileId}
 use Rattle.range_core.specs.declared.entry.Entry.{Entry}
 use Rattle.mini_fs.specs.Holds.{with_lock}
 use Rattle.mini_fs.specs.MountView.{MountView, HasFile, IsLaidOut}
-use Rattle.mini_fs.specs.PassView.{PassView, SizeSeat, IsPassOf, AreAtLocks, pass_view}
-use Rattle.mini_fs.specs.Tickets.{IsTicketOf, KeepsTickets, TicketView, IsLoanSeat}
+use Rattle.mini_fs.specs.PassView.{PassView, SizeSeat, IsPassOf, pass_view}
+use Rattle.mini_fs.specs.Tickets.{KeepsTickets}
 use Rattle.range_core.specs.RangeView.{RangeView}
 use Rattle.mini_fs.specs.Turns.{StandAt, with_seat}
 use Rattle.mini_fs.proofs.Places.{map-kept, map-there, same-length, seen-alike, set-same, set-other, set-length, there-set, within}

@@ -1,5 +1,5 @@
 -- What a try tells, in either case.
-use Rattle.std.proofs.Common.{◌≡◌, List, [], ◌∷◌, ◌++◌, sym, ap, subst, refl}
+use Rattle.std.proofs.Common.{List, sym, subst}
 use Rattle.std.specs.Prelude.{Result, Ok, Err, IfOk, IfErr}
 use Rattle.turn_cell.specs.Stakes.{Begins}
 use Rattle.turn_cell.specs.Views.{SeatView, Turned, FoundHeld}

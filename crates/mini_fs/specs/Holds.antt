@@ -1,9 +1,7 @@
 -- A hold: a class of a file's lock, held by a pass.
 use Rattle.std.specs.Prelude.{◌≡◌, ℕ, Option, Some, None, slice_get, slice_set}
 use Rattle.iob_base.specs.declared.stamp.FileId.{FileId}
-use Rattle.inode_lock.specs.Calls.{IsGranted, IsRefused, IsWon, IsLeft}
 use Rattle.inode_lock.specs.View.{LockView}
-use Rattle.inode_lock.specs.declared.word.Class.{Class}
 use Rattle.mini_fs.specs.MountView.{MountView}
 use Rattle.mini_fs.specs.PassView.{PassView}
 

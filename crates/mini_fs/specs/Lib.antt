@@ -3,3 +3,4 @@ pub mod PassView
 pub mod Turns
 pub mod Tickets
 pub mod Holds
+pub mod SizeTurns

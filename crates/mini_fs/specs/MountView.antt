@@ -1,9 +1,8 @@
 -- What contracts see of a mount: its files, and which cells and locks are theirs.
-use Rattle.std.specs.Prelude.{◌≡◌, ℕ, ◌+◌, ◌-◌, ◌*◌, ◌/◌, ◌<◌, ◌≤◌, min, Option, Some, None, List, [], ◌∷◌, length, get_or, slice_get}
+use Rattle.std.specs.Prelude.{◌≡◌, ℕ, ◌+◌, ◌-◌, ◌*◌, ◌/◌, ◌<◌, min, Option, Some, None, List, [], ◌∷◌, length, get_or, slice_get}
 use Rattle.atomic_table.specs.Seated.{TableId}
 use Rattle.iob_base.specs.Layout.{Layout}
 use Rattle.iob_base.specs.declared.stamp.FileId.{FileId}
-use Rattle.iob_base.specs.declared.stamp.Mode.{Mode}
 use Rattle.iob_base.specs.declared.stamp.Mode.TheVariants.{Cached}
 use Rattle.turn_cell.specs.Views.{CellView}
 use Rattle.range_core.specs.RangeView.{RangeView}

@@ -1,12 +1,10 @@
 -- What contracts see of a pass: a caller's seats at all cells and locks of a mount.
 use Rattle.std.specs.Prelude.{◌≡◌, ℕ, true, Option, Some, None, List, [], map, slice_get, length}
 use Rattle.atomic_table.specs.Seated.{TableId}
-use Rattle.iomap_core.specs.declared.mapping.Iomap.{Iomap}
 use Rattle.inode_lock.specs.View.{LockView}
-use Rattle.turn_cell.specs.Views.{CellView, SeatView}
+use Rattle.turn_cell.specs.Views.{SeatView}
 use Rattle.range_core.specs.ClaimsView.{ClaimsView}
 use Rattle.range_core.specs.declared.entry.Entry.{Entry}
-use Rattle.range_core.specs.declared.sample.Sample.{Sample}
 use Rattle.size_core.specs.ClaimsView as size
 use Rattle.size_core.specs.declared.entry.SizeEntry.{SizeEntry}
 use Rattle.mini_fs.specs.MountView.{MountView}

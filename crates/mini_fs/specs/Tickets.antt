@@ -1,5 +1,5 @@
 -- A ticket: a seat that carries a loan of a pass.
-use Rattle.std.specs.Prelude.{◌≡◌, ℕ, ◌+◌, ◌-◌, false, Option, Some, None, List, [], slice_get}
+use Rattle.std.specs.Prelude.{◌≡◌, ℕ, ◌+◌, false, Option, Some, None, [], slice_get}
 use Rattle.turn_cell.specs.Stakes.{Begins}
 use Rattle.turn_cell.specs.Views.{SeatView, kept_part, new_part}
 use Rattle.range_core.specs.ClaimsView.{ClaimsView}

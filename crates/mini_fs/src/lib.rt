@@ -6,7 +6,7 @@
 //!
 //! - `file`, `mount`: where a file lies, and the mount
 //! - `pass`: a caller's seats and numbers
-//! - `turn`: one turn of a pass, at a stripe or at a size
+//! - `turn`, `size`: one turn of a pass, at a stripe and at a size
 //! - `ticket`: the seat that carries a loan, and the turns that lend and take back
 //! - `hold`, `locks`: a class of a file's lock, and how a pass takes and leaves it
 //! - `crossing`: a mount is shared by threads
@@ -18,6 +18,7 @@ mod hold;
 mod locks;
 mod mount;
 mod pass;
+mod size;
 mod ticket;
 mod turn;
 

@@ -49,6 +49,7 @@ impl Model for Mount {
 
 impl Mount {
     ghost use Rattle.mini_fs.specs.MountView.{HasBlock, HasFile, IsLaidOut, file_at, stripe_at};
+    ghost use Rattle.mini_fs.specs.SizeTurns.{HasSize, size_at};
 
     /// Where the parts of every mount lie. It does nothing.
     pub fn is_laid_out(&self)
@@ -108,6 +109,26 @@ impl Mount {
         ensures { slice_get self.now.stripes stripe ≡ Some (cell_view result.now) }
     {
         &self.stripes[stripe]
+    }
+
+    // The size cell of a file that has a size.
+    pub(crate) fn size(&self, file: FileId) -> usize
+        requires { HasSize self.now file }
+        ensures is { result ≡ size_at self.now file }
+        ensures within { result < length self.now.sizes }
+    {
+        let Some(at) = self.files[file.0 as usize].size else {
+            unreachable!()
+        };
+        at
+    }
+
+    // The cell of a size.
+    pub(crate) fn size_cell(&self, at: usize) -> &TurnCell<Sizes>
+        requires { at < length self.now.sizes }
+        ensures { slice_get self.now.sizes at ≡ Some (cell_view result.now) }
+    {
+        &self.sizes[at]
     }
 
     // The lock of a file.

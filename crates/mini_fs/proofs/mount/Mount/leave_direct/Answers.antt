@@ -1,7 +1,6 @@
 use Rattle.std.proofs.Common.{◌≡◌, Some, ap, ◌∙◌, sym, subst}
-use Rattle.std.specs.Prelude.{slice_get}
 use Rattle.inode_lock.specs.View.{LockView}
-use Rattle.mini_fs.specs.Holds.{HoldView, IsHoldOf, hold_view, with_lock}
+use Rattle.mini_fs.specs.Holds.{IsHoldOf, hold_view}
 use Rattle.mini_fs.specs.MountView.{MountView}
 use Rattle.mini_fs.specs.PassView.{PassView, IsPassOf}
 use Rattle.mini_fs.proofs.Places.{within}

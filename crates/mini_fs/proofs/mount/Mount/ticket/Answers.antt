@@ -1,16 +1,15 @@
-use Rattle.std.proofs.Common.{◌≡◌, ◌<◌, List, [], ◌++◌, Some, None, ap, ◌∙◌, sym, subst, refl, append-nil}
+use Rattle.std.proofs.Common.{◌≡◌, ◌<◌, Some, None, ap, ◌∙◌, sym, subst, refl}
 use Rattle.std.specs.Prelude.{slice_get}
 use Rattle.turn_cell.specs.Seats.{cell_view, seat_claims, seat_view}
 use Rattle.turn_cell.specs.Stakes.{Begins}
-use Rattle.turn_cell.specs.Views.{SeatView, joined, kept_part, new_part}
+use Rattle.turn_cell.specs.Views.{SeatView, kept_part, new_part}
 use Rattle.turn_cell.proofs.Beginnings.{begins-self}
-use Rattle.range_core.specs.ClaimsView.{ClaimsView, MayMerge, merged_claims}
+use Rattle.range_core.specs.ClaimsView.{ClaimsView}
 use Rattle.range_core.specs.declared.entry.Entry.{Entry}
-use Rattle.mini_fs.specs.MountView.{MountView, stripe_at}
+use Rattle.mini_fs.specs.MountView.{MountView}
 use Rattle.mini_fs.specs.PassView.{PassView, IsPassOf, claims_of, own_claims, share_in}
-use Rattle.mini_fs.specs.Tickets.{ClosedTicket, IsLoanSeat, IsTicketOf, KeepsTickets, Opened, TicketView, lent_claims, ticket_claims, ticket_view, with_held, with_share}
-use Rattle.mini_fs.specs.Turns.{StandAt, TurnsAt, with_seat}
-use Rattle.mini_fs.proofs.Loans.{joined-loan, may-merge, turned-begins, turned-claims, loan-at, new-loan}
+use Rattle.mini_fs.specs.Tickets.{IsLoanSeat, IsTicketOf, KeepsTickets, ticket_view}
+use Rattle.mini_fs.specs.Turns.{StandAt, with_seat}
 use Rattle.mini_fs.proofs.Places.{same-at, set-same}
 use Rattle.mini_fs.proofs.Seats.{of-with_seat, seat-set, seat-there, stands-at, stands-in, tickets-with_seat}
 use Rattle.mini_fs.proofs.mount.Mount.ticket.Goals as goal

@@ -1,7 +1,3 @@
-use Rattle.std.proofs.Common.{◌≡◌, Some, None, ap, ◌∙◌}
-use Rattle.std.proofs.lemmas.List.{set-set}
-use Rattle.mini_fs.specs.Holds.{with_lock}
-use Rattle.mini_fs.specs.PassView.{PassView}
 use Rattle.mini_fs.proofs.Seats.{lock_set}
 use Rattle.mini_fs.proofs.mount.Mount.try_direct.Goals as goal
 

@@ -1,11 +1,7 @@
-use Rattle.std.proofs.Common.{◌≡◌, ℕ, List, [], ◌∷◌, map, set, Some, ap, ◌∙◌, sym, subst, refl, append-nil}
+use Rattle.std.proofs.Common.{◌≡◌, [], map, set, Some, ap, ◌∙◌, sym, subst, append-nil}
 use Rattle.std.specs.Prelude.{slice_get}
 use Rattle.turn_cell.specs.Seats.{cell_view, seat_claims, seat_view}
-use Rattle.turn_cell.specs.Views.{FoundHeld, SeatView, Turned}
-use Rattle.turn_cell.specs.declared.turn.Busy.{Busy}
 use Rattle.range_core.specs.ClaimsView.{ClaimsView}
-use Rattle.range_core.specs.RangeTruth.{RangeTruth}
-use Rattle.range_core.specs.declared.entry.Entry.{Entry}
 use Rattle.mini_fs.specs.MountView.{MountView, stripe_at}
 use Rattle.mini_fs.specs.PassView.{PassView, IsPassOf, claims_of, own_claims, pass_view, refused_at, refused_in, size_seat}
 use Rattle.mini_fs.specs.Tickets.{KeepsTickets}

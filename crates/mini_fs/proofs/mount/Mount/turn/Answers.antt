@@ -1,5 +1,4 @@
 use Rattle.std.proofs.Common.{◌≡◌, ap, ◌∙◌, sym, subst}
-use Rattle.std.specs.Prelude.{slice_get}
 use Rattle.turn_cell.specs.Seats.{cell_view, seat_claims, seat_view}
 use Rattle.range_core.specs.ClaimsView.{ClaimsView}
 use Rattle.mini_fs.specs.MountView.{MountView, stripe_at}
