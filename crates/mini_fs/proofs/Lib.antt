@@ -5,3 +5,7 @@ pub mod Loans
 pub mod Firsts
 pub mod Tries
 pub mod SizeSeats
+pub mod Through
+pub mod Freshes
+pub mod Splitting
+pub mod SplitPasses

@@ -4,3 +4,5 @@ pub mod Turns
 pub mod Tickets
 pub mod Holds
 pub mod SizeTurns
+pub mod Splits
+pub mod Places

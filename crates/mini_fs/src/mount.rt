@@ -131,6 +131,14 @@ impl Mount {
         &self.sizes[at]
     }
 
+    // The lock in this place.
+    pub(crate) fn lock_at(&self, place: usize) -> &InodeLock
+        requires { place < length self.now.locks }
+        ensures { slice_get self.now.locks place ≡ Some result.now }
+    {
+        &self.locks[place]
+    }
+
     // The lock of a file.
     pub(crate) fn lock(&self, file: FileId) -> &InodeLock
         requires { HasFile self.now file }

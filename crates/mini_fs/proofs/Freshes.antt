@@ -1,0 +1,14 @@
+-- New seats at locks, one by one.
+use Rattle.std.proofs.Common.{◌≡◌, ℕ, zero, suc, List, [], ◌∷◌, ◌++◌, take, Option, Some, refl, sym, ap, ◌∙◌, subst}
+use Rattle.std.specs.Prelude.{slice_get}
+use Rattle.std.proofs.lemmas.Option.{none-some}
+use Rattle.atomic_table.specs.Seated.{TableId}
+use Rattle.inode_lock.specs.View.{LockView, fresh}
+use Rattle.mini_fs.specs.Splits.{AreFresh}
+
+pub fresh-next : (ids : List TableId) (places : List (Option LockView)) (i : ℕ) (id : TableId) (number : ℕ) (place : Option LockView) → AreFresh (take i ids) places → slice_get ids i ≡ Some id → place ≡ Some (fresh id number) → AreFresh (take (suc i) ids) (places ++ place ∷ [])
+fresh-next [] places i id number place are at is = absurd (none-some id at)
+fresh-next (d ∷ ids) [] zero id number place are at is = ((number, is ∙ ap (λ k. Some (fresh k number)) (sym (let e : d ≡ id = cc in e))), tt)
+fresh-next (d ∷ ids) (p ∷ places) zero id number place are at is = absurd are
+fresh-next (d ∷ ids) [] (suc i) id number place are at is = absurd are
+fresh-next (d ∷ ids) (p ∷ places) (suc i) id number place are at is = (are.0, fresh-next ids places i id number place are.1 at is)
