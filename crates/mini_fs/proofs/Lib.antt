@@ -9,3 +9,4 @@ pub mod Through
 pub mod Freshes
 pub mod Splitting
 pub mod SplitPasses
+pub mod JoinPasses

@@ -7,7 +7,7 @@
 //! - `file`, `mount`: where a file lies, and the mount
 //! - `pass`: a caller's seats and numbers
 //! - `turn`, `size`: one turn of a pass, at a stripe and at a size
-//! - `split`: how a pass is split for another caller
+//! - `split`, `join`: how a pass is split for another caller, and how two passes are joined
 //! - `ticket`: the seat that carries a loan, and the turns that lend and take back
 //! - `hold`, `locks`: a class of a file's lock, and how a pass takes and leaves it
 //! - `crossing`: a mount is shared by threads
@@ -16,6 +16,7 @@
 mod crossing;
 mod file;
 mod hold;
+mod join;
 mod locks;
 mod mount;
 mod pass;
