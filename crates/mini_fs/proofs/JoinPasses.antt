@@ -1,12 +1,12 @@
 -- What becomes of two passes that are joined.
-use Rattle.std.proofs.Common.{◌≡◌, ◌⊎◌, ℕ, zero, suc, ◌+◌, ◌<◌, false, List, [], ◌∷◌, length, map, inl, inr, Some, None, refl, sym, ap, ◌∙◌, subst, arith}
+use Rattle.std.proofs.Common.{◌≡◌, ◌⊎◌, ℕ, zero, suc, ◌+◌, List, [], ◌∷◌, length, map, inl, inr, Some, refl, sym, ap, ◌∙◌, subst, arith}
 use Rattle.std.specs.Prelude.{slice_get, All}
 use Rattle.std.proofs.lemmas.List.{length-map}
 use Rattle.std.proofs.lemmas.Option.{none-some}
 use Rattle.std.proofs.lemmas.Bool.{false≢true}
 use Rattle.turn_cell.specs.Views.{CellView, SeatView, joined}
 use Rattle.turn_cell.proofs.Beginnings.{begins-then}
-use Rattle.range_core.specs.ClaimsView.{ClaimsView, MayMerge, merged_claims}
+use Rattle.range_core.specs.ClaimsView.{ClaimsView, merged_claims}
 use Rattle.range_core.specs.RangeView.{RangeView}
 use Rattle.range_core.specs.declared.entry.Entry.{Entry}
 use Rattle.size_core.specs.ClaimsView as size
@@ -15,7 +15,7 @@ use Rattle.mini_fs.specs.Joins.{AreOneHistory, AreOneSizeHistory, BothBegin, Joi
 use Rattle.mini_fs.specs.MountView.{MountView}
 use Rattle.mini_fs.specs.PassView.{IsPassOf, IsSizeSeat, PassView, SizeSeat, own_claims, size_claims, size_seat}
 use Rattle.mini_fs.specs.Places.{SizePlace, StripePlace, size_place, stripe_place}
-use Rattle.mini_fs.specs.Tickets.{IsTicketOf, KeepsTickets, TicketView}
+use Rattle.mini_fs.specs.Tickets.{KeepsTickets}
 use Rattle.mini_fs.proofs.Through.{all-from}
 use Rattle.mini_fs.proofs.Places.{all-at, map-there, same-length, there, within}
 

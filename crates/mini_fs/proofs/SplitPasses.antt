@@ -1,5 +1,5 @@
 -- What a split leaves of a pass, and that both passes are of the mount.
-use Rattle.std.proofs.Common.{◌≡◌, ℕ, zero, suc, List, [], ◌∷◌, length, map, Some, None, Option, refl, sym, ap, ◌∙◌, subst}
+use Rattle.std.proofs.Common.{◌≡◌, ℕ, zero, suc, List, [], ◌∷◌, length, map, Some, None, Option, refl, sym, ap, ◌∙◌}
 use Rattle.std.specs.Prelude.{slice_get}
 use Rattle.std.proofs.lemmas.List.{length-map}
 use Rattle.std.proofs.lemmas.Option.{none-some}
@@ -8,9 +8,9 @@ use Rattle.inode_lock.specs.View.{LockView, fresh}
 use Rattle.turn_cell.specs.Views.{SeatView}
 use Rattle.range_core.specs.declared.entry.Entry.{Entry}
 use Rattle.mini_fs.specs.MountView.{MountView}
-use Rattle.mini_fs.specs.PassView.{AreAtLocks, IsPassOf, PassView, SizeSeat}
+use Rattle.mini_fs.specs.PassView.{IsPassOf, PassView, SizeSeat}
 use Rattle.mini_fs.specs.Splits.{AreFresh, SplitOff, given_size, given_stripe, kept_lock, kept_pass, kept_size, kept_stripe}
-use Rattle.mini_fs.specs.Tickets.{IsTicketOf, KeepsTickets}
+use Rattle.mini_fs.specs.Tickets.{KeepsTickets}
 use Rattle.mini_fs.proofs.Places.{map-there}
 use Rattle.mini_fs.proofs.Through.{map-map}
 

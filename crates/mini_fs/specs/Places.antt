@@ -1,8 +1,8 @@
 -- A seat at a cell together with what it claims there.
-use Rattle.std.specs.Prelude.{ℕ, ◌<◌}
+use Rattle.std.specs.Prelude.{◌<◌}
 use Rattle.atomic_table.specs.Seated.{TableId}
-use Rattle.turn_cell.specs.Views.{CellView, SeatView, joined, kept_part, new_part}
-use Rattle.range_core.specs.ClaimsView.{ClaimsView, merged_claims, next_claims, rest_claims}
+use Rattle.turn_cell.specs.Views.{CellView, SeatView, kept_part, new_part}
+use Rattle.range_core.specs.ClaimsView.{ClaimsView, next_claims, rest_claims}
 use Rattle.range_core.specs.RangeView.{RangeView}
 use Rattle.range_core.specs.declared.entry.Entry.{Entry}
 use Rattle.size_core.specs.ClaimsView as size

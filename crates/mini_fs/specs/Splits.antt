@@ -1,9 +1,8 @@
 -- A pass is split for another caller, and two passes are joined.
-use Rattle.std.specs.Prelude.{◌≡◌, ℕ, ◌+◌, ◌-◌, ◌<◌, ◌⊎◌, max, Option, Some, None, List, [], ◌∷◌, All, map, slice_get}
+use Rattle.std.specs.Prelude.{◌≡◌, ℕ, ◌-◌, ◌<◌, Option, Some, None, List, [], ◌∷◌, All, map}
 use Rattle.atomic_table.specs.Seated.{TableId}
 use Rattle.inode_lock.specs.View.{LockView, fresh, split_off}
-use Rattle.turn_cell.specs.Stakes.{Begins}
-use Rattle.turn_cell.specs.Views.{SeatView, joined, kept_part, new_part}
+use Rattle.turn_cell.specs.Views.{SeatView, kept_part, new_part}
 use Rattle.range_core.specs.declared.entry.Entry.{Entry}
 use Rattle.mini_fs.specs.MountView.{MountView}
 use Rattle.mini_fs.specs.PassView.{PassView, SizeSeat}

@@ -1,6 +1,6 @@
-use Rattle.std.proofs.Common.{◌≡◌, ℕ, suc, ◌+◌, ◌<◌, List, [], ◌∷◌, map, length, drop, Some, ap, ◌∙◌, sym, subst, refl, arith, inl, inr}
+use Rattle.std.proofs.Common.{◌≡◌, ◌<◌, List, ◌∷◌, map, length, drop, Some, ap, ◌∙◌, sym, subst, arith, inl, inr}
 use Rattle.std.specs.Prelude.{slice_get}
-use Rattle.std.specs.Vec.Iter.{into_iter_items, into_iter_len}
+use Rattle.std.specs.Vec.Iter.{into_iter_items}
 use Rattle.std.proofs.lemmas.List.{length-map}
 use Rattle.std.proofs.lemmas.Bool.{cases_eq}
 use Rattle.turn_cell.specs.Seats.{cell_view, seat_claims, seat_view}
@@ -8,7 +8,7 @@ use Rattle.turn_cell.specs.Stakes.{Begins}
 use Rattle.mini_fs.specs.Joins.{AreOneHistory, BothBegin, joined_stripe_place, paired}
 use Rattle.mini_fs.specs.Places.{StripePlace, cell_of_stripe, id_of_range, stripe_place}
 use Rattle.mini_fs.proofs.Firsts.{front-of, front-rest, join-all, join-at, join-next}
-use Rattle.mini_fs.proofs.Places.{map-there, same-length, seen-alike, within}
+use Rattle.mini_fs.proofs.Places.{map-there, seen-alike, within}
 use Rattle.mini_fs.proofs.join.join_stripes.Goals as goal
 
 pub join-requires-clause-cell : goal.join-requires-clause-cell

@@ -1,8 +1,7 @@
-use Rattle.std.proofs.Common.{◌≡◌, ℕ, suc, ◌+◌, ◌<◌, List, [], ◌∷◌, ◌++◌, length, set, take, ◌≤◌, Option, Some, ap, ◌∙◌, sym, subst, refl, arith}
+use Rattle.std.proofs.Common.{◌≡◌, suc, ◌+◌, ◌<◌, [], ◌∷◌, ◌++◌, length, set, take, ◌≤◌, Some, ap, ◌∙◌, sym, subst, refl, arith}
 use Rattle.std.specs.Prelude.{slice_get}
 use Rattle.std.proofs.lemmas.List.{take_all}
 use Rattle.std.proofs.lemmas.Option.{slice_get_read}
-use Rattle.inode_lock.specs.View.{LockView}
 use Rattle.mini_fs.specs.Splits.{AreFresh, IsHome, kept_lock}
 use Rattle.mini_fs.proofs.Firsts.{on_first, on_first-all, on_first-at, on_first-next}
 use Rattle.mini_fs.proofs.Freshes.{fresh-next}

@@ -1,4 +1,4 @@
-use Rattle.std.proofs.Common.{◌≡◌, ℕ, ◌+◌, ◌-◌, ◌<◌, List, map, ap, ◌∙◌, sym, subst, refl, arith}
+use Rattle.std.proofs.Common.{◌≡◌, ◌-◌, ◌<◌, map, ap, ◌∙◌, sym, subst, refl}
 use Rattle.std.specs.Prelude.{All}
 use Rattle.turn_cell.specs.Seats.{seat_claims, seat_view}
 use Rattle.mini_fs.specs.MountView.{MountView}
