@@ -1,4 +1,4 @@
-use Rattle.std.proofs.Common.{◌≡◌, ℕ, ◌-◌, List, ◌++◌, None, Some, refl, sym, ◌∙◌, ap, subst, arith}
+use Rattle.std.proofs.Common.{◌≡◌, ℕ, ◌-◌, List, ◌++◌, length, None, Some, refl, sym, ◌∙◌, ap, subst, arith}
 use Rattle.iob_base.specs.declared.stamp.Stamp.{Stamp}
 use Rattle.turn_cell.specs.Seats.{seat_claims, seat_view}
 use Rattle.range_core.specs.DaxZeros.{CanZeroDax, after_dax_zero, zeroed_through}
