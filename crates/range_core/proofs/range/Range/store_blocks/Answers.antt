@@ -1,4 +1,4 @@
-use Rattle.std.proofs.Common.{◌≡◌, ℕ, ◌-◌, ◌++◌, List, All, sym, ◌∙◌, ap, subst, arith}
+use Rattle.std.proofs.Common.{◌≡◌, ℕ, ◌-◌, ◌++◌, length, List, All, sym, ◌∙◌, ap, subst, arith}
 use Rattle.iob_base.specs.declared.stamp.Stamp.{Stamp}
 use Rattle.turn_cell.specs.Seats.{seat_claims, seat_view}
 use Rattle.range_core.specs.ByteRuns.{IsRunIn, after_bytes}
