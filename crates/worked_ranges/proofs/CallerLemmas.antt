@@ -1,8 +1,10 @@
 -- A caller goes on after a turn, and takes what it is lent.
-use Rattle.std.proofs.Common.{◌≡◌, ℕ, ◌+◌, ◌<◌, ◌≤◌, List, [], ◌∷◌, ◌++◌, length, sym, ◌∙◌, subst, ap, append_assoc, arith}
+use Rattle.std.proofs.Common.{◌≡◌, ℕ, ◌+◌, ◌<◌, ◌≤◌, nat_lt, List, [], ◌∷◌, ◌++◌, length, sym, ◌∙◌, subst, ap, append_assoc, arith}
 use Rattle.std.specs.Prelude.{Option, Some, None, IfSome}
 use Rattle.iob_base.specs.declared.stamp.Mode.{Mode}
-use Rattle.fault_device.specs.Transfer.{CanTransfer}
+use Rattle.fault_device.specs.Transfer.{CanTransfer, parts_after}
+use Rattle.fault_device.specs.declared.lane.Done.{Done}
+use Rattle.iob_base.specs.declared.stamp.Op.{Op}
 use Rattle.io_model.specs.declared.file.Kind.{Kind}
 use Rattle.turn_cell.specs.Stakes.{Begins}
 use Rattle.turn_cell.specs.Views.{CellView, SeatView}
@@ -10,6 +12,7 @@ use Rattle.range_core.proofs.SampleLemmas.{given_later}
 use Rattle.range_core.specs.ClaimsView.{ClaimsView, released}
 use Rattle.range_core.specs.Lends.{TakesHold}
 use Rattle.range_core.specs.RangeView.{LiesAt, RangeView}
+use Rattle.range_core.specs.Returning.{MayComeBack}
 use Rattle.range_core.specs.KnownSamples.{WasGiven}
 use Rattle.range_core.specs.declared.entry.Entry.{Entry}
 use Rattle.range_core.specs.declared.lending.Lender.{Lender}
@@ -85,3 +88,28 @@ comes_home cell mine both after claims merged left sample loan was same more mai
     later : (sample : Option Sample) → IfSome sample (λ s. WasGiven s mine.seen) → IfSome sample (λ s. WasGiven s both.seen)
     later None given = given
     later (Some s) given = given_later s mine.seen both.seen more given
+
+-- what a caller holds comes back after a transfer of it
+pub may_come_back : (cell : CellView RangeView) (seat : SeatView Entry) (claims : ClaimsView) (sample : Option Sample) (lender : Lender) (op : Op) (lent back : Lent) (done : Done) → IsCaller cell seat claims sample (Some (lender, lent))
+    → back.ticket ≡ lent.ticket → back.block ≡ lent.block → back.parts ≡ parts_after op done.landed lent.parts → done.landed ≤ length lent.parts → done.failed ≡ nat_lt done.landed (length lent.parts)
+    → MayComeBack cell.opening claims lender op back done
+may_come_back cell seat claims sample lender op lent back done was ticket block parts landed failed =
+    let holds = was.holds in
+    let is : lent ≡ holds.claim.lent.value = sym holds.lent_is in
+    let L : Lent → Type 0 = λ l. LiesAt cell.opening l.block (length l.parts) in
+    let S : Lent → Type 0 = λ l. 0 < length l.parts in
+    let N : Lent → Type 0 = λ l. done.landed ≤ length l.parts in
+    record {
+      claim = holds.claim;
+      lent_for = holds.lender_is;
+      is_return = record {
+        held = holds.held;
+        ticket = ticket ∙ ap (λ (l : Lent). l.ticket) is;
+        block = block ∙ ap (λ (l : Lent). l.block) is;
+        some = subst S is holds.lies.some;
+        parts = parts ∙ ap (λ (l : Lent). parts_after op done.landed l.parts) is;
+        landed = subst N is landed;
+        failed = failed ∙ ap (λ (l : Lent). nat_lt done.landed (length l.parts)) is;
+      };
+      lies = subst L is holds.lies;
+    }

@@ -57,7 +57,9 @@ impl<'a, R: Abort + Wait> Caller<'a, R> {
         } = ticket;
         match lender {
             Lender::Writeback => {}
-            Lender::Reading | Lender::Direct { .. } => panic!(self.rt; "a loan for a write"),
+            Lender::Reading | Lender::Direct { .. } | Lender::Part { .. } => {
+                panic!(self.rt; "a loan for a write")
+            }
         }
         let done = carry(lane, Op::Write, &mut back);
         Written { seat, back, done }
@@ -77,6 +79,7 @@ impl<'a, R: Abort + Wait> Caller<'a, R> {
             back: Some(back),
             done,
         };
-        self.ground.cell.turn(self.rt, &mut self.seat, &mut change)
+        let end = self.ground.cell.turn(self.rt, &mut self.seat, &mut change);
+        end.blocks
     }
 }
