@@ -1,13 +1,15 @@
 -- The run of blocks that is read: its cells, its bytes, and what one event reads of it.
-use Rattle.std.proofs.Common.{◌≡◌, ℕ, zero, suc, ◌+◌, ◌-◌, ◌*◌, ◌%◌, ◌<◌, ◌≤◌, Bool, true, false, List, [], ◌∷◌, ◌++◌, Some, None, Option, nat_eq, if◌then◌else◌, length, take, drop, replicate, Result, Ok, Err, refl, sym, ap, ◌∙◌, arith, subst, eq-eqb}
+use Rattle.std.proofs.Common.{◌≡◌, ℕ, zero, suc, ◌+◌, ◌-◌, ◌*◌, ◌%◌, ◌<◌, ◌≤◌, Bool, true, false, List, [], ◌∷◌, ◌++◌, Some, None, Option, nat_eq, if◌then◌else◌, get_or, length, take, drop, replicate, Result, Ok, Err, refl, sym, ap, ◌∙◌, arith, subst, eq-eqb}
 use Rattle.std.specs.Bool.{MatchBool}
 use Rattle.std.specs.List.{AllByRecursion, prefix_len}
 use Rattle.std.specs.Prelude.{All, IfOk}
 use Rattle.std.proofs.lemmas.Bool.{le-leb, lt-ltb}
 use Rattle.std.proofs.Math.Nat.{mod-eq-sub-div-mul, mod-lt}
-use Rattle.std.proofs.lemmas.List.{length-replicate}
-use Rattle.std.proofs.lemmas.List.Elements.{All-from_recursion, All-replicate, All-tail, All-weaker}
+use Rattle.std.proofs.lemmas.List.{drop-append-le, length-replicate, take_all}
+use Rattle.std.proofs.lemmas.List.Elements.{All-from_recursion, All-head, All-replicate, All-tail, All-weaker}
 use Rattle.iob_base.specs.DeviceBlock.{DeviceBlock, device_block}
+use Rattle.iob_base.specs.Parting.{pages_of}
+use Rattle.iob_base.specs.declared.part.Part.{Part}
 use Rattle.iob_base.specs.declared.sector.Page.{Page}
 use Rattle.io_model.specs.Contents.{Content, device_bytes, mapped_or_zeros, opening_content}
 use Rattle.io_model.specs.Kinds.{covers, kind_after, kind_at, mapped_number}
@@ -348,3 +350,12 @@ still_serves o n was now j served = at j.answer j.is_asked
     at : (answer : Option Done) → IsAsked AsksLane n was now answer → Serves o now
     at None same = subst (Serves o) (sym same) served
     at (Some done) told = (told.serves o served).still
+
+-- the bytes of pages from a place of the first one on: its own from there, and all of the others
+pub after_first : (place : ℕ) (d first : Part) (parts : List Part) → first ≡ get_or parts 0 d → 1 ≤ length parts → All (λ p. place ≤ length p.bytes) (pages_of parts)
+    → drop place first.page.bytes ++ bytes_of (pages_of (take (length parts - 1) (drop 1 parts))) ≡ drop place (bytes_of (pages_of parts))
+after_first place d first [] is some all = absurd (omega (arith, some))
+after_first place d first (p ∷ parts) is some all =
+    ap (λ (q : Part). drop place q.page.bytes ++ bytes_of (pages_of (take (length (p ∷ parts) - 1) parts))) is
+    ∙ ap (λ l. drop place p.page.bytes ++ bytes_of (pages_of l)) (take_all (length (p ∷ parts) - 1) parts (omega arith))
+    ∙ sym (drop-append-le place p.page.bytes (bytes_of (pages_of parts)) (All-head (λ q. place ≤ length q.bytes) p.page (pages_of parts) all))
