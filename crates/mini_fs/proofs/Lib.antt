@@ -10,3 +10,4 @@ pub mod Freshes
 pub mod Splitting
 pub mod SplitPasses
 pub mod JoinPasses
+mod Endings

@@ -10,10 +10,12 @@
 //! - `split`, `join`: how a pass is split for another caller, and how two passes are joined
 //! - `ticket`: the seat that carries a loan, and the turns that lend and take back
 //! - `hold`, `locks`: a class of a file's lock, and how a pass takes and leaves it
+//! - `ending`: what is left of a range whose cell is closed
 //! - `crossing`: a mount is shared by threads
 #![tactic(auto)]
 
 mod crossing;
+mod ending;
 mod file;
 mod hold;
 mod join;
@@ -26,6 +28,7 @@ mod ticket;
 mod turn;
 
 pub use crossing::mounts_are_shared;
+pub use ending::close_range;
 pub use file::FilePlace;
 pub use hold::{CachedHold, DirectHold, ExclusiveHold};
 pub use locks::WordBusy;
