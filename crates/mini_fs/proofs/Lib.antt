@@ -11,3 +11,4 @@ pub mod Splitting
 pub mod SplitPasses
 pub mod JoinPasses
 mod Endings
+mod StripeEnds

@@ -8,12 +8,14 @@ use Rattle.io_model.specs.Kinds.{device_number, kind_at, mapped_number}
 use Rattle.io_model.specs.declared.file.BlockEnd.{BlockEnd}
 use Rattle.io_model.specs.declared.file.Extent.{Extent}
 use Rattle.io_model.specs.declared.file.Kind.{Kind}
+use Rattle.space_pool.specs.declared.claims.PoolClaims.{PoolClaims}
 use Rattle.space_pool.specs.declared.entry.PoolEntry.{PoolEntry}
 use Rattle.turn_cell.specs.Stakes.{total}
-use Rattle.turn_cell.specs.Views.{SeatView, WasHeld}
+use Rattle.turn_cell.specs.Views.{CellView, SeatView, WasHeld}
 use Rattle.range_core.specs.BlockContents.{opening_bytes, replayed}
 use Rattle.range_core.specs.BlockStates.{state_of, states_replayed}
 use Rattle.range_core.specs.Cells.{HasSector}
+use Rattle.range_core.specs.ClaimsView.{ClaimsView}
 use Rattle.range_core.specs.EntryStamps.{stamps_in}
 use Rattle.range_core.specs.RangeView.{RangeView, part_in}
 use Rattle.range_core.specs.Space.{SpaceClaims}
@@ -54,6 +56,31 @@ pub record EndsSpace (opening : RangeView) (ends : List BlockEnd) (seat : SeatVi
   pub cap : space.cap ≡ length opening.cells
 
 -- The seat has seen the whole history and made each entry of it, once, and each time that it found the gate held a turn of that history held it
-pub record SawAll (seat : SeatView Entry) : Type 0 where
-  pub once : (f : Entry → ℕ) → total f seat.seen ≡ total f seat.made
+pub record SawAll {E : Type 0} (seat : SeatView E) : Type 0 where
+  pub once : (f : E → ℕ) → total f seat.seen ≡ total f seat.made
   pub refused : All (WasHeld (length seat.seen)) seat.refused
+
+-- what is left of a range: its extents, the ends of its blocks, and its seat at the pool with what that claims
+pub record RangeEndView : Type 0 where
+  pub extents : List Extent
+  pub blocks : List BlockEnd
+  pub seat : SeatView PoolEntry
+  pub space : SpaceClaims
+
+abbrev pub range_end : List Extent → List BlockEnd → SeatView PoolEntry → PoolClaims → RangeEndView
+range_end extents blocks seat claims = record { extents = extents; blocks = blocks; seat = seat; space = claims.facts }
+
+-- the seat claims no blocks
+abbrev pub ClaimsNoBlocks : ClaimsView → Type 0
+ClaimsNoBlocks c = c.held ≡ None
+
+-- This is left of the range in a cell that this seat has closed
+pub record IsEnd (cell : CellView RangeView) (seat : SeatView Entry) (end : RangeEndView) : Type 0 where
+  pub saw : SawAll seat
+  pub ends : EndsRange cell.opening seat.seen end.extents end.blocks
+  pub space : EndsSpace cell.opening end.blocks end.seat end.space
+
+-- These are left of the ranges in cells, each closed by the seat in its place
+pub record AreEnds (cells : List (CellView RangeView)) (seats : List (SeatView Entry)) (ends : List RangeEndView) : Type 0 where
+  pub count : length ends ≡ length cells
+  pub each : (k : ℕ) (cell : CellView RangeView) (seat : SeatView Entry) (end : RangeEndView) → slice_get cells k ≡ Some cell → slice_get seats k ≡ Some seat → slice_get ends k ≡ Some end → IsEnd cell seat end

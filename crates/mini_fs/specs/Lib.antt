@@ -8,3 +8,4 @@ pub mod Splits
 pub mod Places
 pub mod Joins
 pub mod Ends
+pub mod SizeEnds

@@ -16,7 +16,7 @@ use std::vec::IntoIter;
 use turn_cell::TurnSeat;
 
 // The next of those that are left.
-fn next_of<T>(rest: &mut IntoIter<T, Global>) -> T
+pub(crate) fn next_of<T>(rest: &mut IntoIter<T, Global>) -> T
     requires { 0 < into_iter_len rest.old }
     ensures items { into_iter_items rest.old ≡ result ∷ into_iter_items rest.new }
     ensures len { into_iter_len rest.new + 1 ≡ into_iter_len rest.old }

@@ -10,7 +10,8 @@
 //! - `split`, `join`: how a pass is split for another caller, and how two passes are joined
 //! - `ticket`: the seat that carries a loan, and the turns that lend and take back
 //! - `hold`, `locks`: a class of a file's lock, and how a pass takes and leaves it
-//! - `ending`: what is left of a range whose cell is closed
+//! - `ending`, `size_ending`: what is left of a range, and of a size, whose cell is closed
+//! - `stripes`: the ranges of many cells are taken apart
 //! - `crossing`: a mount is shared by threads
 #![tactic(auto)]
 
@@ -23,7 +24,9 @@ mod locks;
 mod mount;
 mod pass;
 mod size;
+mod size_ending;
 mod split;
+mod stripes;
 mod ticket;
 mod turn;
 
@@ -34,4 +37,6 @@ pub use hold::{CachedHold, DirectHold, ExclusiveHold};
 pub use locks::WordBusy;
 pub use mount::Mount;
 pub use pass::Pass;
+pub use size_ending::close_size;
+pub use stripes::close_ranges;
 pub use ticket::Ticket;
