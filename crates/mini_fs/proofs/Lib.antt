@@ -12,3 +12,4 @@ pub mod SplitPasses
 pub mod JoinPasses
 mod Endings
 mod StripeEnds
+mod PoolEnds

@@ -9,3 +9,4 @@ pub mod Places
 pub mod Joins
 pub mod Ends
 pub mod SizeEnds
+pub mod PoolEnds

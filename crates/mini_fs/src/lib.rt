@@ -10,7 +10,7 @@
 //! - `split`, `join`: how a pass is split for another caller, and how two passes are joined
 //! - `ticket`: the seat that carries a loan, and the turns that lend and take back
 //! - `hold`, `locks`: a class of a file's lock, and how a pass takes and leaves it
-//! - `ending`, `size_ending`: what is left of a range, and of a size, whose cell is closed
+//! - `ending`, `size_ending`, `pool_ending`: what is left of a range, of a size and of the pool, whose cell is closed
 //! - `stripes`: the ranges of many cells are taken apart
 //! - `crossing`: a mount is shared by threads
 #![tactic(auto)]
@@ -23,6 +23,7 @@ mod join;
 mod locks;
 mod mount;
 mod pass;
+mod pool_ending;
 mod size;
 mod size_ending;
 mod split;
@@ -37,6 +38,7 @@ pub use hold::{CachedHold, DirectHold, ExclusiveHold};
 pub use locks::WordBusy;
 pub use mount::Mount;
 pub use pass::Pass;
+pub use pool_ending::close_pool;
 pub use size_ending::close_size;
 pub use stripes::close_ranges;
 pub use ticket::Ticket;
