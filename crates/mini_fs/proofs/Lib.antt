@@ -13,3 +13,5 @@ pub mod JoinPasses
 mod Endings
 mod StripeEnds
 mod PoolEnds
+pub mod Openings
+pub mod Cuts

@@ -10,3 +10,4 @@ pub mod Joins
 pub mod Ends
 pub mod SizeEnds
 pub mod PoolEnds
+pub mod Pieces

@@ -17,13 +17,16 @@
 
 mod crossing;
 mod ending;
+mod cutting;
 mod file;
 mod hold;
 mod join;
 mod locks;
 mod mount;
+mod opening;
 mod pass;
 mod pool_ending;
+mod piece;
 mod size;
 mod size_ending;
 mod split;
@@ -33,12 +36,15 @@ mod turn;
 
 pub use crossing::mounts_are_shared;
 pub use ending::close_range;
+pub use cutting::cut_files;
 pub use file::FilePlace;
 pub use hold::{CachedHold, DirectHold, ExclusiveHold};
 pub use locks::WordBusy;
 pub use mount::Mount;
+pub use opening::{Opened, open_piece, open_pieces};
 pub use pass::Pass;
 pub use pool_ending::close_pool;
 pub use size_ending::close_size;
 pub use stripes::close_ranges;
+pub use piece::Piece;
 pub use ticket::Ticket;
