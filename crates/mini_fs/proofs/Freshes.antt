@@ -12,3 +12,9 @@ fresh-next (d ∷ ids) [] zero id number place are at is = ((number, is ∙ ap (
 fresh-next (d ∷ ids) (p ∷ places) zero id number place are at is = absurd are
 fresh-next (d ∷ ids) [] (suc i) id number place are at is = absurd are
 fresh-next (d ∷ ids) (p ∷ places) (suc i) id number place are at is = (are.0, fresh-next ids places i id number place are.1 at is)
+
+pub fresh-push : (ids : List TableId) (places : List (Option LockView)) (id : TableId) (number : ℕ) (place : Option LockView) → AreFresh ids places → place ≡ Some (fresh id number) → AreFresh (ids ++ id ∷ []) (places ++ place ∷ [])
+fresh-push [] [] id number place are is = ((number, is), tt)
+fresh-push [] (p ∷ places) id number place are is = absurd are
+fresh-push (d ∷ ids) [] id number place are is = absurd are
+fresh-push (d ∷ ids) (p ∷ places) id number place are is = (are.0, fresh-push ids places id number place are.1 is)

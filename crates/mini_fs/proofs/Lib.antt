@@ -15,3 +15,4 @@ mod StripeEnds
 mod PoolEnds
 pub mod Openings
 pub mod Cuts
+pub mod Layings

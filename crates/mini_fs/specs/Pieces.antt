@@ -5,7 +5,7 @@ use Rattle.iob_base.specs.DeviceBlock.{DeviceBlock}
 use Rattle.iob_base.specs.Layout.{Layout}
 use Rattle.iob_base.specs.declared.stamp.Mode.{Mode}
 use Rattle.io_model.specs.declared.file.FileSpec.{FileSpec}
-use Rattle.file_stripes.specs.Files.{kinds_of_file, numbers_of_file}
+use Rattle.file_stripes.specs.Files.{blocks_of_files, kinds_of_file, numbers_of_file, numbers_of_files}
 use Rattle.file_stripes.specs.Kinds.{LiesIn, kinds_from, numbers_of}
 use Rattle.file_stripes.specs.Stripes.{AreStripes, sectors_in}
 use Rattle.file_stripes.specs.Taking.{IsWhole, sector_numbers}
@@ -13,7 +13,7 @@ use Rattle.file_stripes.specs.declared.stripe.Stripe.{Stripe}
 use Rattle.turn_cell.specs.Stakes.{total}
 use Rattle.turn_cell.specs.Views.{CellView, SeatView, first_seat}
 use Rattle.space_pool.specs.Claims.{ClaimsView, claims_with}
-use Rattle.space_pool.specs.Pool.{AreDistinct}
+use Rattle.space_pool.specs.Pool.{AreDistinct, PoolView}
 use Rattle.range_core.specs.RangeView.{RangeView, range_of}
 use Rattle.mini_fs.specs.declared.piece.Piece.{Piece}
 
@@ -65,3 +65,15 @@ pub record AddsFile (file : FileSpec) (before : List Piece) (held : List DeviceB
   pub cut : AreStripes 64 0 (kinds_of_file file) stripes
   pub numbers : sector_numbers (sectors_in stripes) ≡ numbers_of_file file
   pub sectors : sectors_in stripes ++ left ≡ held
+
+-- The stripes of files lie over a device: these ranges were opened with the stripes that the files are cut into, over the sectors of the files' blocks, and the pool with all other sectors, so that each is there once
+pub record LaidStripes (geometry : Layout) (cookie : ℕ) (sectors : List DeviceBlock) (files : List FileSpec) (openings : List RangeView) (pool : CellView PoolView) : Type 0 where
+  pub pieces : List Piece
+  pub cut : AreCut files pieces
+  pub openings_are : openings ≡ map (opening_of geometry cookie pool.cell) pieces
+  pub numbers : sector_numbers (sectors_of pieces) ≡ numbers_of_files files
+  pub all : (f : DeviceBlock → ℕ) → total f (sectors_of pieces) + total f pool.opening.free ≡ total f sectors
+  pub free : pool.opening.reserved ≡ 0
+  pub known : (f : ℕ → ℕ) → total f pool.opening.numbers ≡ total (λ s. f s.number) sectors
+  pub cap : pool.opening.cap ≡ blocks_of_files files
+  pub size : pool.opening.size ≡ geometry.block_size
