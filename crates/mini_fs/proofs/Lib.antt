@@ -16,3 +16,5 @@ mod PoolEnds
 pub mod Openings
 pub mod Cuts
 pub mod Layings
+pub mod Placings
+pub mod Lookups

@@ -11,3 +11,4 @@ pub mod Ends
 pub mod SizeEnds
 pub mod PoolEnds
 pub mod Pieces
+pub mod FilePlaces
