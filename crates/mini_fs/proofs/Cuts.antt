@@ -72,7 +72,7 @@ cut-next all i f ps qs held rest more so below is adds =
     let own = adds.stripes in
     let taken : take (i + 1) all ≡ take i all ++ f ∷ [] = take_more all i f below ∙ ap (λ g. take i all ++ g ∷ []) (sym is) in
     let whole : sector_numbers (sectors_in own) ++ sector_numbers more ≡ sector_numbers (sectors_in own) ++ numbers_of_files (drop (i + 1) all) =
-        sym (map-append (λ (s : DeviceBlock). s.number) (sectors_in own) more) ∙ ap sector_numbers adds.sectors ∙ so.numbers ∙ files_next all i f below is ∙ ap (λ ns. ns ++ numbers_of_files (drop (i + 1) all)) (sym adds.numbers) in
+    sym (map-append (λ (s : DeviceBlock). s.number) (sectors_in own) more) ∙ ap sector_numbers adds.sectors ∙ so.numbers ∙ files_next all i f below is ∙ ap (λ ns. ns ++ numbers_of_files (drop (i + 1) all)) (sym adds.numbers) in
     record {
       cut = subst (λ fs. AreCut fs qs) (sym taken) (subst (AreCut (take i all ++ f ∷ [])) (sym adds.pieces_are) (cut-more (take i all) f ps own so.cut adds.cut));
       sectors = ap (λ l. sectors_of l ++ more) adds.pieces_are ∙ ap (λ l. l ++ more) (sectors-append ps (map (piece_of f.mode) own) ∙ ap (λ l. sectors_of ps ++ l) (sectors-own f.mode own))

@@ -13,11 +13,7 @@ use std::alloc::{AllocError, Global};
 use std::vec::IntoIter;
 
 // Adds stripes of a file of this mode at the end.
-fn add_stripes(
-    mode: Mode,
-    stripes: Vec<Stripe>,
-    pieces: &mut Vec<Piece>,
-) -> Result<(), AllocError>
+fn add_stripes(mode: Mode, stripes: Vec<Stripe>, pieces: &mut Vec<Piece>) -> Result<(), AllocError>
     ensures { OnOk result (pieces.new.items ≡ pieces.old.items ++ map (piece_of mode) stripes.items) }
 {
     for stripe in stripes {

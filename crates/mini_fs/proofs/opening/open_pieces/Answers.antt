@@ -41,7 +41,7 @@ loop-preserved c =
     let seat = c.in_ok-cell.seat in
     let padded = c.new.result in
     let grown : map (λ k. cell_view (padded_value k)) (l.cells.items) ++ cell_view cell ∷ [] ≡ map (λ k. cell_view (padded_value k)) (l.cells.items) ++ cell_view (padded_value padded) ∷ [] =
-        ap (λ v. map (λ k. cell_view (padded_value k)) (l.cells.items) ++ cell_view v ∷ []) (sym c.new.ensures) in
+    ap (λ v. map (λ k. cell_view (padded_value k)) (l.cells.items) ++ cell_view v ∷ []) (sym c.new.ensures) in
     let cells = ap (map (λ k. cell_view (padded_value k))) c.in_ok-push.ensures.items ∙ map-append (λ k. cell_view (padded_value k)) l.cells.items (padded ∷ []) ∙ sym grown in
     let seats = ap (map seat_view) c.in_ok-push-2.ensures.items ∙ map-append seat_view l.seats.items (seat ∷ []) in
     record {
