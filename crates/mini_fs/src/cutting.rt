@@ -37,7 +37,7 @@ fn cut_file(
     add_stripes(file.mode, stripes, pieces)
 }
 
-// The stripes of files, in order of file and block, with these sectors, which are those of the files' blocks in order.
+/// The stripes of files, in order of file and block, with these sectors, which are those of the files' blocks in order.
 pub fn cut_files(
     alloc: Global,
     files: &[FileSpec],

@@ -5,7 +5,7 @@ ghost use Rattle.mini_fs.specs.Splits.{AreFresh};
 use inode_lock::{InodeLock, LockSeat};
 use std::alloc::{AllocError, Global};
 
-// So many locks that nobody holds, and the first seat at each. Want of memory is the only error.
+/// So many locks that nobody holds, and the first seat at each. Want of memory is the only error.
 pub fn open_locks(
     alloc: Global,
     count: usize,

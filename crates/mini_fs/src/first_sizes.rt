@@ -9,7 +9,7 @@ use size_core::{SizeClaims, Sizes};
 use std::alloc::{AllocError, Global};
 use turn_cell::{NoCell, TurnCell, TurnSeat};
 
-// The cell of a size that is at most the declared end, and the first seat there. Want of memory is the only error.
+/// The cell of a size that is at most the declared end, and the first seat there. Want of memory is the only error.
 pub fn open_size(
     alloc: Global,
     size: u64,

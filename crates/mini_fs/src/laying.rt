@@ -73,8 +73,8 @@ fn open_pool(
     }
 }
 
-// The stripes of all files as ranges, over the sectors that the files name, and the pool of the others. Want of memory is
-// the only error.
+/// The stripes of all files as ranges, over the sectors that the files name, and the pool of the others. Want of memory is
+/// the only error.
 pub fn lay_stripes(
     alloc: Global,
     geometry: Geometry,

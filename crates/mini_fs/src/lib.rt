@@ -10,14 +10,17 @@
 //! - `split`, `join`: how a pass is split for another caller, and how two passes are joined
 //! - `ticket`: the seat that carries a loan, and the turns that lend and take back
 //! - `hold`, `locks`: a class of a file's lock, and how a pass takes and leaves it
+//! - `piece`, `cutting`: files cut into stripes, each with its file's mode
+//! - `opening`, `laying`: each stripe becomes a range in a cell, and all files are laid over a device and its pool
+//! - `placing`, `first_locks`, `first_sizes`: where files lie, their locks, and the cell of a size
 //! - `ending`, `size_ending`, `pool_ending`: what is left of a range, of a size and of the pool, whose cell is closed
 //! - `stripes`: the ranges of many cells are taken apart
 //! - `crossing`: a mount is shared by threads
 #![tactic(auto)]
 
 mod crossing;
-mod ending;
 mod cutting;
+mod ending;
 mod file;
 mod first_locks;
 mod first_sizes;
@@ -28,9 +31,9 @@ mod locks;
 mod mount;
 mod opening;
 mod pass;
-mod pool_ending;
 mod piece;
 mod placing;
+mod pool_ending;
 mod size;
 mod size_ending;
 mod split;
@@ -39,8 +42,8 @@ mod ticket;
 mod turn;
 
 pub use crossing::mounts_are_shared;
-pub use ending::close_range;
 pub use cutting::cut_files;
+pub use ending::close_range;
 pub use file::FilePlace;
 pub use first_locks::open_locks;
 pub use first_sizes::open_size;
@@ -50,9 +53,9 @@ pub use locks::WordBusy;
 pub use mount::Mount;
 pub use opening::{Opened, open_piece, open_pieces};
 pub use pass::Pass;
+pub use piece::Piece;
+pub use placing::place_files;
 pub use pool_ending::close_pool;
 pub use size_ending::close_size;
 pub use stripes::close_ranges;
-pub use piece::Piece;
-pub use placing::place_files;
 pub use ticket::Ticket;

@@ -65,7 +65,7 @@ fn range_of_piece(
     )
 }
 
-// The cell of a stripe, whose seat at the pool is split off this one, and the first seat at that cell.
+/// The cell of a stripe, whose seat at the pool is split off this one, and the first seat at that cell.
 pub fn open_piece(
     alloc: Global,
     geometry: Geometry,
@@ -99,7 +99,7 @@ pub fn open_piece(
     }
 }
 
-// The cells of stripes in order, whose seats at the pool are split off this one, and the first seat at each.
+/// The cells of stripes in order, whose seats at the pool are split off this one, and the first seat at each.
 pub fn open_pieces(
     alloc: Global,
     geometry: Geometry,

@@ -34,7 +34,7 @@ fn cells_in(size: Option<usize>) -> usize
     if size.is_some() { 1 } else { 0 }
 }
 
-// Where files lie, in order. Want of memory is the only error.
+/// Where files lie, in order. Want of memory is the only error.
 pub fn place_files(alloc: Global, files: &[FileSpec]) -> Result<Vec<FilePlace>, AllocError>
     requires files { All IsFile files.now }
     requires few { length files.now < 2 ^ 32 }
