@@ -2,12 +2,12 @@
 use Rattle.std.proofs.Common.{◌≡◌, ℕ, suc, ◌+◌, ◌<◌, get_or, List, [], ◌∷◌, ◌++◌, length, map, take, drop, refl, sym, subst, ap, ◌∙◌, arith}
 use Rattle.std.specs.Prelude.{All}
 use Rattle.std.proofs.lemmas.List.{append-nil, append_assoc, append_cancel_left, drop_all, length-append, map-append, take-append-drop, take_all, take_more}
-use Rattle.std.proofs.lemmas.List.Elements.{All-append, All-cons, All-head, All-nil, All-tail}
+use Rattle.std.proofs.lemmas.List.Elements.{All-append, All-cons, All-nil}
 use Rattle.iob_base.specs.DeviceBlock.{DeviceBlock}
 use Rattle.iob_base.specs.declared.stamp.Mode.{Mode}
 use Rattle.io_model.specs.declared.file.FileSpec.{FileSpec}
 use Rattle.io_model.specs.declared.file.Kind.{Kind}
-use Rattle.file_stripes.specs.Files.{IsFile, blocks_of_files, kinds_of_file, numbers_of_file, numbers_of_files}
+use Rattle.file_stripes.specs.Files.{blocks_of_files, kinds_of_file, numbers_of_file, numbers_of_files}
 use Rattle.file_stripes.specs.Stripes.{AreStripes, IsStripe, sectors_in}
 use Rattle.file_stripes.specs.Taking.{BeginsWith, sector_numbers}
 use Rattle.file_stripes.specs.declared.stripe.Stripe.{Stripe}

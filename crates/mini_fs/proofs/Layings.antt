@@ -1,7 +1,7 @@
 -- A device's sectors go to the stripes of files and to the pool.
-use Rattle.std.proofs.Common.{◌≡◌, ℕ, ◌+◌, ◌*◌, ◌<◌, ◌≤◌, ◌==◌, get_or, List, [], ◌∷◌, ◌++◌, length, map, drop, refl, sym, subst, ap, ◌∙◌, arith}
+use Rattle.std.proofs.Common.{◌≡◌, ℕ, ◌+◌, ◌<◌, ◌≤◌, ◌==◌, get_or, List, [], ◌∷◌, ◌++◌, length, map, drop, refl, sym, ap, ◌∙◌, arith}
 use Rattle.std.specs.Prelude.{if◌then◌else◌}
-use Rattle.std.proofs.lemmas.List.{drop_more, length-map}
+use Rattle.std.proofs.lemmas.List.{drop_more}
 use Rattle.iob_base.specs.DeviceBlock.{DeviceBlock}
 use Rattle.iob_base.specs.Layout.{Layout}
 use Rattle.io_model.specs.declared.file.FileSpec.{FileSpec}
@@ -15,7 +15,7 @@ use Rattle.space_pool.specs.Claims.{ClaimsView, claims_with, times}
 use Rattle.space_pool.specs.Pool.{AreDistinct, PoolView, fresh_pool}
 use Rattle.space_pool.specs.Sectors.{SameSectors}
 use Rattle.range_core.specs.RangeView.{RangeView}
-use Rattle.mini_fs.specs.Pieces.{AreCut, KeepsFor, LaidStripes, blocks_of, opening_of, sectors_of}
+use Rattle.mini_fs.specs.Pieces.{AreCut, KeepsFor, LaidStripes, opening_of, sectors_of}
 use Rattle.mini_fs.specs.declared.piece.Piece.{Piece}
 
 pub count-next : (files : List FileSpec) (i blocks : ℕ) (f : FileSpec) → i < length files → f ≡ get_or files i f → blocks + blocks_of_files (drop i files) ≡ blocks_of_files files → (blocks + f.blocks) + blocks_of_files (drop (i + 1) files) ≡ blocks_of_files files

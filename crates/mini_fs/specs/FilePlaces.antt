@@ -1,5 +1,5 @@
 -- Where files lie in a mount: the stripes and the size cells of each behind those of the files before it.
-use Rattle.std.specs.Prelude.{◌≡◌, ℕ, ◌+◌, Option, Some, None, List, [], ◌∷◌}
+use Rattle.std.specs.Prelude.{ℕ, ◌+◌, Option, Some, None, List, [], ◌∷◌}
 use Rattle.io_model.specs.declared.file.FileSpec.{FileSpec}
 use Rattle.mini_fs.specs.MountView.{size_cells, stripes_of}
 use Rattle.mini_fs.specs.declared.file.FilePlace.{FilePlace}

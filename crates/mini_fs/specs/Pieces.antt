@@ -8,12 +8,12 @@ use Rattle.io_model.specs.declared.file.FileSpec.{FileSpec}
 use Rattle.file_stripes.specs.Files.{blocks_of_files, kinds_of_file, numbers_of_file, numbers_of_files}
 use Rattle.file_stripes.specs.Kinds.{LiesIn, kinds_from, numbers_of}
 use Rattle.file_stripes.specs.Stripes.{AreStripes, sectors_in}
-use Rattle.file_stripes.specs.Taking.{IsWhole, sector_numbers}
+use Rattle.file_stripes.specs.Taking.{sector_numbers}
 use Rattle.file_stripes.specs.declared.stripe.Stripe.{Stripe}
 use Rattle.turn_cell.specs.Stakes.{total}
 use Rattle.turn_cell.specs.Views.{CellView, SeatView, first_seat}
 use Rattle.space_pool.specs.Claims.{ClaimsView, claims_with}
-use Rattle.space_pool.specs.Pool.{AreDistinct, PoolView}
+use Rattle.space_pool.specs.Pool.{PoolView}
 use Rattle.range_core.specs.RangeView.{RangeView, range_of}
 use Rattle.mini_fs.specs.declared.piece.Piece.{Piece}
 

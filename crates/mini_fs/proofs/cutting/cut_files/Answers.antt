@@ -1,4 +1,4 @@
-use Rattle.std.proofs.Common.{◌≡◌, length, ◌∙◌, ap, sym, arith}
+use Rattle.std.proofs.Common.{◌∙◌, ap, arith}
 use Rattle.std.specs.Vec.Iter.{into_iter_items}
 use Rattle.file_stripes.specs.Taking.{sector_numbers}
 use Rattle.mini_fs.proofs.Cuts.{cut-all, cut-begins, cut-blocks, cut-next, cut-none, cut-pieces, cut-sectors}
