@@ -12,12 +12,12 @@ use Rattle.range_core.specs.declared.entry.Entry.{Entry}
 use Rattle.size_core.specs.ClaimsView as size
 use Rattle.size_core.specs.declared.entry.SizeEntry.{SizeEntry}
 use Rattle.mini_fs.specs.Joins.{AreOneHistory, AreOneSizeHistory, BothBegin, JoinedHistories, MergeSizes, MergeStripes, joined_pass, joined_size, joined_size_place, joined_stripe_place, paired}
-use Rattle.mini_fs.specs.MountView.{MountView}
+use Rattle.mount_parts.specs.MountView.{MountView}
 use Rattle.mini_fs.specs.PassView.{IsPassOf, IsSizeSeat, PassView, SizeSeat, own_claims, size_claims, size_seat}
 use Rattle.mini_fs.specs.Places.{SizePlace, StripePlace, size_place, stripe_place}
 use Rattle.mini_fs.specs.Tickets.{KeepsTickets}
 use Rattle.mini_fs.proofs.Through.{all-from}
-use Rattle.mini_fs.proofs.Places.{all-at, map-there, same-length, there, within}
+use Rattle.mount_parts.proofs.Places.{all-at, map-there, same-length, there, within}
 
 module _ {S V : Type 0} where
   -- what is seen in a place is a seat there

@@ -5,8 +5,8 @@ use Rattle.std.specs.Prelude.{◌/◌, Option, Some, None}
 use Rattle.std.proofs.lemmas.Option.{none-some}
 use Rattle.mini_fs.specs.SizeTurns.{HasSize}
 use Rattle.iob_base.specs.declared.stamp.FileId.{FileId}
-use Rattle.mini_fs.specs.MountView.{MountView, IsNumbered, LieInOrder, HasBlock, HasFile, IsLaidOut, no_file, file_at, size_cells, stripe_at, stripes_of}
-use Rattle.mini_fs.specs.declared.file.FilePlace.{FilePlace}
+use Rattle.mount_parts.specs.MountView.{MountView, IsNumbered, LieInOrder, HasBlock, HasFile, IsLaidOut, no_file, file_at, size_cells, stripe_at, stripes_of}
+use Rattle.mount_parts.specs.declared.file.FilePlace.{FilePlace}
 
 lie-above : (fs : List FilePlace) (from size stripes sizes : ℕ) → LieInOrder from size fs stripes sizes → from ≤ stripes
 lie-above [] from size stripes sizes lies = let e = lies.0 in omega arith

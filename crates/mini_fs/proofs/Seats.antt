@@ -12,12 +12,13 @@ use Rattle.inode_lock.specs.View.{LockView}
 use Rattle.iob_base.specs.declared.stamp.FileId.{FileId}
 use Rattle.range_core.specs.declared.entry.Entry.{Entry}
 use Rattle.mini_fs.specs.Holds.{with_lock}
-use Rattle.mini_fs.specs.MountView.{MountView, HasFile, IsLaidOut}
+use Rattle.mount_parts.specs.MountView.{MountView, HasFile, IsLaidOut}
+use Rattle.mini_fs.specs.declared.begun.Begun.{Begun}
 use Rattle.mini_fs.specs.PassView.{PassView, SizeSeat, IsPassOf, pass_view}
 use Rattle.mini_fs.specs.Tickets.{KeepsTickets}
 use Rattle.range_core.specs.RangeView.{RangeView}
 use Rattle.mini_fs.specs.Turns.{StandAt, with_seat}
-use Rattle.mini_fs.proofs.Places.{map-kept, map-there, same-length, seen-alike, set-same, set-other, set-length, there-set, within}
+use Rattle.mount_parts.proofs.Places.{map-kept, map-there, same-length, seen-alike, set-same, set-other, set-length, there-set, within}
 
 module _ (p : PassView) (stripe : ℕ) (before after : SeatView Entry) (here : slice_get p.stripes stripe ≡ Some before) (cell : after.cell ≡ before.cell) where
   pub of-with_seat : (m : MountView) → IsPassOf m p → IsPassOf m (with_seat p stripe after)
@@ -61,10 +62,10 @@ pub lock-file : (m : MountView) (file : FileId) (id : TableId) → IsLaidOut m �
 lock-file m file id laid at = let w = within m.locks file.0 id at in let e = laid.locks in omega arith
 
 -- A pass is seen by its seats, of which the one at this stripe is `x`
-module _ {S : Type 0} (view : S → SeatView Entry) (seats : List S) (sizes : List SizeSeat) (locks : List (Option LockView)) (caller spare last : ℕ) (p : PassView) (is : pass_view (map view seats) sizes locks caller spare last ≡ p) (stripe : ℕ) where
+module _ {S : Type 0} (view : S → SeatView Entry) (seats : List S) (sizes : List SizeSeat) (locks : List (Option LockView)) (caller spare last : ℕ) (begun : Option Begun) (p : PassView) (is : pass_view (map view seats) sizes locks caller spare last begun ≡ p) (stripe : ℕ) where
   -- with another seat there
-  pub seat-set : (y : S) → pass_view (map view (set seats stripe y)) sizes locks caller spare last ≡ with_seat p stripe (view y)
-  seat-set y = ap (λ l. pass_view l sizes locks caller spare last) (map-set view seats stripe y) ∙ ap (λ q. with_seat q stripe (view y)) is
+  pub seat-set : (y : S) → pass_view (map view (set seats stripe y)) sizes locks caller spare last begun ≡ with_seat p stripe (view y)
+  seat-set y = ap (λ l. pass_view l sizes locks caller spare last begun) (map-set view seats stripe y) ∙ ap (λ q. with_seat q stripe (view y)) is
 
   module _ (m : MountView) (of : IsPassOf m p) (x : S) (cell : CellView RangeView) (at : x ≡ get_or seats stripe x) (here : slice_get m.stripes stripe ≡ Some cell) where
     pub seat-there : slice_get seats stripe ≡ Some x

@@ -7,11 +7,12 @@ use Rattle.atomic_table.specs.Seated.{TableId}
 use Rattle.inode_lock.specs.View.{LockView, fresh}
 use Rattle.turn_cell.specs.Views.{SeatView}
 use Rattle.range_core.specs.declared.entry.Entry.{Entry}
-use Rattle.mini_fs.specs.MountView.{MountView}
+use Rattle.mount_parts.specs.MountView.{MountView}
 use Rattle.mini_fs.specs.PassView.{IsPassOf, PassView, SizeSeat}
-use Rattle.mini_fs.specs.Splits.{AreFresh, SplitOff, given_size, given_stripe, kept_lock, kept_pass, kept_size, kept_stripe}
+use Rattle.mount_parts.specs.Locks.{AreFresh}
+use Rattle.mini_fs.specs.Splits.{SplitOff, given_size, given_stripe, kept_lock, kept_pass, kept_size, kept_stripe}
 use Rattle.mini_fs.specs.Tickets.{KeepsTickets}
-use Rattle.mini_fs.proofs.Places.{map-there}
+use Rattle.mount_parts.proofs.Places.{map-there}
 use Rattle.mini_fs.proofs.Through.{map-map}
 
 kept-home : (ids : List TableId) (places : List (Option LockView)) (f : ℕ) (id : TableId) (seat : LockView) → ((other : LockView) → slice_get places f ≡ Some (Some other) → other.lock ≡ id) → slice_get (map kept_lock places) f ≡ Some (Some seat) → seat.lock ≡ id

@@ -10,7 +10,7 @@ use Rattle.size_core.specs.declared.entry.SizeEntry.{SizeEntry}
 use Rattle.mini_fs.specs.PassView.{IsSizeSeat, SizeSeat, own_claims, size_claims, size_seat}
 use Rattle.mini_fs.specs.Places.{CanGiveSize, CanGiveStripe, SizePlace, StripePlace, cell_of_size, cell_of_stripe, given_size_place, given_stripe_place, kept_size_place, kept_stripe_place, size_place, stripe_place}
 use Rattle.mini_fs.specs.Splits.{given_share, given_size, given_stripe, kept_size, kept_stripe}
-use Rattle.mini_fs.proofs.Places.{all-at, map-there, there, within}
+use Rattle.mount_parts.proofs.Places.{all-at, map-there, there, within}
 use Rattle.mini_fs.proofs.Through.{all-from, made-of, map-map, seen-through}
 
 module _ {S : Type 0} (view : S → SeatView Entry) (claims : S → ClaimsView) where

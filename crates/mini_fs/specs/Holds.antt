@@ -2,7 +2,7 @@
 use Rattle.std.specs.Prelude.{◌≡◌, ℕ, Option, Some, None, slice_get, slice_set}
 use Rattle.iob_base.specs.declared.stamp.FileId.{FileId}
 use Rattle.inode_lock.specs.View.{LockView}
-use Rattle.mini_fs.specs.MountView.{MountView}
+use Rattle.mount_parts.specs.MountView.{MountView}
 use Rattle.mini_fs.specs.PassView.{PassView}
 
 -- the file, the number of the caller whose seat it is, and the seat at the file's lock

@@ -1,4 +1,3 @@
-pub mod MountView
 pub mod PassView
 pub mod Turns
 pub mod Tickets
@@ -7,8 +6,3 @@ pub mod SizeTurns
 pub mod Splits
 pub mod Places
 pub mod Joins
-pub mod Ends
-pub mod SizeEnds
-pub mod PoolEnds
-pub mod Pieces
-pub mod FilePlaces

@@ -7,14 +7,15 @@ use Rattle.range_core.specs.ClaimsView.{ClaimsView}
 use Rattle.range_core.specs.declared.entry.Entry.{Entry}
 use Rattle.size_core.specs.ClaimsView as size
 use Rattle.size_core.specs.declared.entry.SizeEntry.{SizeEntry}
-use Rattle.mini_fs.specs.MountView.{MountView}
+use Rattle.mount_parts.specs.MountView.{MountView}
+use Rattle.mini_fs.specs.declared.begun.Begun.{Begun}
 
 -- a seat at a size cell, and for how many entries it has room there
 pub record SizeSeat : Type 0 where
   pub seat : SeatView SizeEntry
   pub rooms : ℕ
 
--- the seats at the stripes, at the sizes and at the locks, which is out while the pass holds a class of the file; the caller number, how many numbers it may hand on, and the number of the last call
+-- the seats at the stripes, at the sizes and at the locks, which is out while the pass holds a class of the file; the caller number, how many numbers it may hand on, the number of the last call, and the mapping that it began and has not ended, with its sample
 pub record PassView : Type 0 where
   pub stripes : List (SeatView Entry)
   pub sizes : List SizeSeat
@@ -22,9 +23,10 @@ pub record PassView : Type 0 where
   pub caller : ℕ
   pub spare : ℕ
   pub last : ℕ
+  pub begun : Option Begun
 
-abbrev pub pass_view : List (SeatView Entry) → List SizeSeat → List (Option LockView) → ℕ → ℕ → ℕ → PassView
-pass_view stripes sizes locks caller spare last = record { stripes = stripes; sizes = sizes; locks = locks; caller = caller; spare = spare; last = last }
+abbrev pub pass_view : List (SeatView Entry) → List SizeSeat → List (Option LockView) → ℕ → ℕ → ℕ → Option Begun → PassView
+pass_view stripes sizes locks caller spare last begun = record { stripes = stripes; sizes = sizes; locks = locks; caller = caller; spare = spare; last = last; begun = begun }
 
 abbrev pub size_seat : SeatView SizeEntry → size.ClaimsView → SizeSeat
 size_seat seat claims = record { seat = seat; rooms = claims.rooms }

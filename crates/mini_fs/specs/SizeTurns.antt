@@ -7,7 +7,7 @@ use Rattle.size_core.specs.ClaimsView.{ClaimsView}
 use Rattle.size_core.specs.SizeTruth.{SizeTruth}
 use Rattle.size_core.specs.SizesView.{SizesView}
 use Rattle.size_core.specs.declared.entry.SizeEntry.{SizeEntry}
-use Rattle.mini_fs.specs.MountView.{MountView, file_at}
+use Rattle.mount_parts.specs.MountView.{MountView, file_at}
 use Rattle.mini_fs.specs.PassView.{PassView, SizeSeat, size_claims}
 
 -- the file has a size

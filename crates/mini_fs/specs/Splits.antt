@@ -4,7 +4,8 @@ use Rattle.atomic_table.specs.Seated.{TableId}
 use Rattle.inode_lock.specs.View.{LockView, fresh, split_off}
 use Rattle.turn_cell.specs.Views.{SeatView, kept_part, new_part}
 use Rattle.range_core.specs.declared.entry.Entry.{Entry}
-use Rattle.mini_fs.specs.MountView.{MountView}
+use Rattle.mount_parts.specs.Locks.{AreFresh}
+use Rattle.mount_parts.specs.MountView.{MountView}
 use Rattle.mini_fs.specs.PassView.{PassView, SizeSeat}
 
 -- the share at each cell that a new pass gets
@@ -44,17 +45,11 @@ pub record CanSplit (p : PassView) : Type 0 where
   pub sizes : All (λ s. given_share < s.seat.share) p.sizes
   pub home : HoldsNothing p
 
--- new seats at these locks, one by one, which made no step
-abbrev pub AreFresh : List TableId → List (Option LockView) → Type 0
-AreFresh [] [] = Unit {0}
-AreFresh (id ∷ ids) (place ∷ places) = ((number : ℕ) × (place ≡ Some (fresh id number))) × AreFresh ids places
-AreFresh _ _ = ⊥
-
 -- What is left of a pass
 abbrev pub kept_pass : PassView → PassView
 kept_pass p = record p { stripes = map kept_stripe p.stripes; sizes = map kept_size p.sizes; locks = map kept_lock p.locks; spare = p.spare - 1 }
 
--- A new pass was split off: it has the lowest spare number and none to hand on, has seen what the first has and made nothing, has made no step at a lock, and has the same last call
+-- A new pass was split off: it has the lowest spare number and none to hand on, has seen what the first has and made nothing, has made no step at a lock, has the same last call, and began no mapping
 pub record SplitOff (m : MountView) (p q new : PassView) : Type 0 where
   pub left : q ≡ kept_pass p
   pub stripes : new.stripes ≡ map given_stripe p.stripes
@@ -63,3 +58,4 @@ pub record SplitOff (m : MountView) (p q new : PassView) : Type 0 where
   pub caller : new.caller ≡ 4294967296 - p.spare
   pub spare : new.spare ≡ 0
   pub last : new.last ≡ p.last
+  pub begun : new.begun ≡ None

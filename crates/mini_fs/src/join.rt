@@ -1,6 +1,5 @@
 //! Two passes are joined.
 ghost use Rattle.std.specs.Prelude.{◌≡◌, ◌+◌, ◌<◌, ◌∷◌, map, max};
-ghost use Rattle.std.specs.Vec.Iter.{into_iter_items, into_iter_len};
 ghost use Rattle.turn_cell.specs.Seats.{seat_claims, seat_view};
 ghost use Rattle.mini_fs.specs.Joins.{AreOneHistory, AreOneSizeHistory, CanJoin, JoinedHistories, MergeSizes, MergeStripes, joined_pass, joined_size_place, joined_stripe_place, paired};
 ghost use Rattle.mini_fs.specs.PassView.{IsPassOf};
@@ -9,23 +8,10 @@ ghost use Rattle.mini_fs.specs.Tickets.{KeepsTickets};
 
 use crate::mount::Mount;
 use crate::pass::Pass;
+use mount_parts::next_of;
 use range_core::Range;
 use size_core::Sizes;
-use std::alloc::Global;
-use std::vec::IntoIter;
 use turn_cell::TurnSeat;
-
-// The next of those that are left.
-pub(crate) fn next_of<T>(rest: &mut IntoIter<T, Global>) -> T
-    requires { 0 < into_iter_len rest.old }
-    ensures items { into_iter_items rest.old ≡ result ∷ into_iter_items rest.new }
-    ensures len { into_iter_len rest.new + 1 ≡ into_iter_len rest.old }
-{
-    let Some(next) = rest.next() else {
-        unreachable!()
-    };
-    next
-}
 
 // The greater of two calls' numbers.
 fn later(a: u32, b: u32) -> u32
@@ -87,6 +73,7 @@ impl Mount {
             caller: _,
             spare,
             last,
+            begun: _,
         } = from;
         join_stripes(self, &mut into.stripes, stripes);
         join_sizes(self, &mut into.sizes, sizes);

@@ -3,7 +3,7 @@ ghost use Rattle.std.specs.Prelude.{◌≡◌, ◌<◌, Some, None, IfOk, IfErr,
 ghost use Rattle.inode_lock.specs.Calls.{IsGranted, IsRefused, IsWon, IsLeft};
 ghost use Rattle.inode_lock.specs.declared.word.Class.TheVariants.{Cached, Direct, Exclusive};
 ghost use Rattle.mini_fs.specs.Holds.{BringsBack, HoldsNone, IsHoldOf, StaysHome, TakesOut, with_lock};
-ghost use Rattle.mini_fs.specs.MountView.{HasFile};
+ghost use Rattle.mount_parts.specs.MountView.{HasFile};
 ghost use Rattle.mini_fs.specs.PassView.{IsPassOf};
 ghost use Rattle.mini_fs.specs.Tickets.{KeepsTickets};
 

@@ -2,10 +2,10 @@
 ghost use Rattle.std.specs.Prelude.{◌≡◌, ◌<◌, ◌≤◌, ◌+◌, ◌/◌, Some, is_some, length, slice_get};
 ghost use Rattle.turn_cell.specs.Seats.{cell_view};
 
-use crate::file::FilePlace;
 use crossbeam_utils::CachePadded;
 use inode_lock::InodeLock;
 use iob_base::{FileId, Geometry, Mode, STRIPE};
+use mount_parts::FilePlace;
 use range_core::Range;
 use size_core::Sizes;
 use space_pool::SpacePool;
@@ -38,7 +38,7 @@ impl Model for Mount {
     ghost use Rattle.crossbeam_utils.specs.Padded.{padded_value};
     ghost use Rattle.space_pool.specs.Seats.{pool_cell};
     ghost use Rattle.turn_cell.specs.Seats.{cell_view};
-    ghost use Rattle.mini_fs.specs.MountView.{MountView, IsLaidOut, mount_view};
+    ghost use Rattle.mount_parts.specs.MountView.{MountView, IsLaidOut, mount_view};
 
     ghost Value = { MountView };
 
@@ -48,7 +48,7 @@ impl Model for Mount {
 }
 
 impl Mount {
-    ghost use Rattle.mini_fs.specs.MountView.{HasBlock, HasFile, IsLaidOut, file_at, stripe_at};
+    ghost use Rattle.mount_parts.specs.MountView.{HasBlock, HasFile, IsLaidOut, file_at, stripe_at};
     ghost use Rattle.mini_fs.specs.SizeTurns.{HasSize, size_at};
 
     /// Where the parts of every mount lie. It does nothing.

@@ -1,6 +1,7 @@
 //! A pass: a caller's seats at the cells and locks of a mount, and its numbers.
 ghost use Rattle.std.specs.Prelude.{◌≡◌};
 
+use crate::begun::Begun;
 use inode_lock::LockSeat;
 use range_core::Range;
 use size_core::Sizes;
@@ -24,6 +25,8 @@ pub struct Pass {
     pub(crate) caller: u32,
     pub(crate) spare: u32,
     pub(crate) last: u32,
+    // The mapping that the pass began and has not ended.
+    pub(crate) begun: Option<Begun>,
 }
 
 impl Model for Pass {
@@ -33,7 +36,7 @@ impl Model for Pass {
 
     ghost Value = { PassView };
 
-    ghost view = { λ p. pass_view (map seat_view p.stripes.items) (map (λ s. size_seat (seat_view s) (seat_claims s)) p.sizes.items) p.locks.items p.caller p.spare p.last };
+    ghost view = { λ p. pass_view (map seat_view p.stripes.items) (map (λ s. size_seat (seat_view s) (seat_claims s)) p.sizes.items) p.locks.items p.caller p.spare p.last p.begun };
 
     ghost invariant = { λ p. All (λ s. seat_claims s ≡ own_claims p.caller p.spare) p.stripes.items × All (λ s. IsSizeSeat p.caller p.spare (seat_claims s)) p.sizes.items };
 }

@@ -4,8 +4,9 @@ ghost use Rattle.atomic_table.specs.Seated.{TableId};
 ghost use Rattle.inode_lock.specs.View.{LockView, fresh};
 ghost use Rattle.turn_cell.specs.Seats.{seat_claims, seat_view};
 ghost use Rattle.mini_fs.specs.PassView.{AreAtLocks, IsPassOf};
+ghost use Rattle.mount_parts.specs.Locks.{AreFresh};
 ghost use Rattle.mini_fs.specs.Places.{CanGiveSize, CanGiveStripe, SizePlace, StripePlace, cell_of_size, cell_of_stripe, given_size_place, given_stripe_place, id_of_range, id_of_size, kept_size_place, kept_stripe_place, size_place, stripe_place};
-ghost use Rattle.mini_fs.specs.Splits.{AreFresh, CanSplit, IsHome, SplitOff, kept_lock};
+ghost use Rattle.mini_fs.specs.Splits.{CanSplit, IsHome, SplitOff, kept_lock};
 ghost use Rattle.mini_fs.specs.Tickets.{KeepsTickets};
 
 use crate::mount::Mount;
@@ -132,6 +133,7 @@ impl Mount {
             caller,
             spare: 0,
             last: pass.last,
+            begun: None,
         })
     }
 }

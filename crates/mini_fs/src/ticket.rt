@@ -4,7 +4,7 @@ ghost use Rattle.turn_cell.specs.Seats.{cell_view, seat_claims, seat_view, IsSea
 ghost use Rattle.turn_cell.specs.Stakes.{Begins};
 ghost use Rattle.turn_cell.specs.Views.{Turned, new_part};
 ghost use Rattle.range_core.specs.RangeTruth.{RangeTruth};
-ghost use Rattle.mini_fs.specs.MountView.{HasBlock, stripe_at};
+ghost use Rattle.mount_parts.specs.MountView.{HasBlock, stripe_at};
 ghost use Rattle.mini_fs.specs.PassView.{IsPassOf, share_at};
 ghost use Rattle.mini_fs.specs.Tickets.{ClosedTicket, IsLoanSeat, IsTicketOf, KeepsTickets, Opened, lent_claims, ticket_claims, with_held};
 ghost use Rattle.mini_fs.specs.Turns.{LeavesNumbers, ReadyAt, TurnsAt};

@@ -1,6 +1,6 @@
 //! A turn of a pass.
 ghost use Rattle.std.specs.Prelude.{◌≡◌, OnOk, IfOk, IfErr};
-ghost use Rattle.mini_fs.specs.MountView.{HasBlock, stripe_at};
+ghost use Rattle.mount_parts.specs.MountView.{HasBlock, stripe_at};
 ghost use Rattle.mini_fs.specs.PassView.{IsPassOf, claims_of, refused_at};
 ghost use Rattle.mini_fs.specs.Tickets.{KeepsTickets};
 ghost use Rattle.mini_fs.specs.Turns.{BusyAt, LeavesClaims, ReadyAt, TurnsAt};

@@ -7,8 +7,9 @@ use Rattle.turn_cell.specs.Seats.{cell_view, seat_claims, seat_view}
 use Rattle.turn_cell.specs.Stakes.{Begins}
 use Rattle.mini_fs.specs.Joins.{AreOneSizeHistory, BothBegin, joined_size_place, paired}
 use Rattle.mini_fs.specs.Places.{SizePlace, cell_of_size, id_of_size, size_place}
-use Rattle.mini_fs.proofs.Firsts.{front-of, front-rest, join-all, join-at, join-next}
-use Rattle.mini_fs.proofs.Places.{map-there, seen-alike, within}
+use Rattle.mini_fs.proofs.Firsts.{join-all, join-at, join-next}
+use Rattle.mount_parts.proofs.Fronts.{front-of, front-rest}
+use Rattle.mount_parts.proofs.Places.{map-there, seen-alike, within}
 use Rattle.mini_fs.proofs.join.join_sizes.Goals as goal
 
 pub join-requires-clause-cell : goal.join-requires-clause-cell

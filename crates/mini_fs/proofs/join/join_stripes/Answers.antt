@@ -7,8 +7,9 @@ use Rattle.turn_cell.specs.Seats.{cell_view, seat_claims, seat_view}
 use Rattle.turn_cell.specs.Stakes.{Begins}
 use Rattle.mini_fs.specs.Joins.{AreOneHistory, BothBegin, joined_stripe_place, paired}
 use Rattle.mini_fs.specs.Places.{StripePlace, cell_of_stripe, id_of_range, stripe_place}
-use Rattle.mini_fs.proofs.Firsts.{front-of, front-rest, join-all, join-at, join-next}
-use Rattle.mini_fs.proofs.Places.{map-there, seen-alike, within}
+use Rattle.mini_fs.proofs.Firsts.{join-all, join-at, join-next}
+use Rattle.mount_parts.proofs.Fronts.{front-of, front-rest}
+use Rattle.mount_parts.proofs.Places.{map-there, seen-alike, within}
 use Rattle.mini_fs.proofs.join.join_stripes.Goals as goal
 
 pub join-requires-clause-cell : goal.join-requires-clause-cell

@@ -2,10 +2,11 @@ use Rattle.std.proofs.Common.{◌≡◌, suc, ◌+◌, ◌<◌, [], ◌∷◌, �
 use Rattle.std.specs.Prelude.{slice_get}
 use Rattle.std.proofs.lemmas.List.{take_all}
 use Rattle.std.proofs.lemmas.Option.{slice_get_read}
-use Rattle.mini_fs.specs.Splits.{AreFresh, IsHome, kept_lock}
+use Rattle.mini_fs.specs.Splits.{IsHome, kept_lock}
+use Rattle.mount_parts.specs.Locks.{AreFresh}
 use Rattle.mini_fs.proofs.Firsts.{on_first, on_first-all, on_first-at, on_first-next}
-use Rattle.mini_fs.proofs.Freshes.{fresh-next}
-use Rattle.mini_fs.proofs.Places.{all-at, there, within}
+use Rattle.mount_parts.proofs.Freshes.{fresh-next}
+use Rattle.mount_parts.proofs.Places.{all-at, there, within}
 use Rattle.mini_fs.proofs.split.split_locks.Goals as goal
 
 pub split_lock-seat-requires-clause-home : goal.split_lock-seat-requires-clause-home

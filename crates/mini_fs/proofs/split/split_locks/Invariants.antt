@@ -1,5 +1,6 @@
 use Rattle.std.proofs.Common.{◌≡◌, take, vec_len, vec_capacity}
-use Rattle.mini_fs.specs.Splits.{AreFresh, kept_lock}
+use Rattle.mini_fs.specs.Splits.{kept_lock}
+use Rattle.mount_parts.specs.Locks.{AreFresh}
 use Rattle.mini_fs.proofs.Firsts.{on_first}
 use Rattle.mini_fs.proofs.split.split_locks.Given as goal
 

@@ -4,7 +4,7 @@ use Rattle.std.proofs.lemmas.List.{length-map}
 use Rattle.turn_cell.specs.Seats.{cell_view, seat_claims, seat_view}
 use Rattle.mini_fs.specs.Places.{CanGiveSize, SizePlace, cell_of_size, given_size_place, id_of_size, kept_size_place, size_place}
 use Rattle.mini_fs.proofs.Firsts.{part-all, part-at, part-kept, part-made, part-made-all}
-use Rattle.mini_fs.proofs.Places.{all-at, seen-alike}
+use Rattle.mount_parts.proofs.Places.{all-at, seen-alike}
 use Rattle.mini_fs.proofs.split.split_sizes.Goals as goal
 
 pub split-seat-requires-clause-cell : goal.split-seat-requires-clause-cell

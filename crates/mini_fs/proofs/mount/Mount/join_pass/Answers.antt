@@ -4,12 +4,12 @@ use Rattle.std.proofs.lemmas.List.{length-map}
 use Rattle.turn_cell.specs.Seats.{seat_claims, seat_view}
 use Rattle.turn_cell.specs.Views.{joined}
 use Rattle.mini_fs.specs.Joins.{JoinedHistories, joined_pass, joined_size, joined_size_place, joined_stripe_place}
-use Rattle.mini_fs.specs.MountView.{MountView}
+use Rattle.mount_parts.specs.MountView.{MountView}
 use Rattle.mini_fs.specs.PassView.{IsPassOf, PassView, pass_view, size_seat}
 use Rattle.mini_fs.specs.Places.{size_place, stripe_place}
 use Rattle.mini_fs.specs.Tickets.{KeepsTickets}
 use Rattle.mini_fs.proofs.JoinPasses.{joined-histories, of-joined, paired-seen, sizes-both, sizes-merge, stripes-both, stripes-merge, tickets-joined}
-use Rattle.mini_fs.proofs.Places.{same-length}
+use Rattle.mount_parts.proofs.Places.{same-length}
 use Rattle.mini_fs.proofs.Splitting.{size-cells, stripe-cells}
 use Rattle.mini_fs.proofs.mount.Mount.join_pass.Goals as goal
 
@@ -101,9 +101,9 @@ returns-clause-of c =
     let spare : (r.spare ≡ 0) ⊎ (f.spare ≡ 0) = elim c.requires.can.spare [ inl e ↦ inl (ap (λ (v : PassView). v.spare) c.into.view_is ∙ e) | inr e ↦ inr (ap (λ (v : PassView). v.spare) c.from.view_is ∙ e) ] in
     let js = c.join_stripes in
     let jz = c.join_sizes in
-    let is : pass_view (map seat_view js.new.seats.items) (map (λ s. size_seat (seat_view s) (seat_claims s)) jz.new.seats.items) r.locks.items r.caller (r.spare + f.spare) c.later-last.result ≡ joined_pass p q =
+    let is : pass_view (map seat_view js.new.seats.items) (map (λ s. size_seat (seat_view s) (seat_claims s)) jz.new.seats.items) r.locks.items r.caller (r.spare + f.spare) c.later-last.result r.begun ≡ joined_pass p q =
     (λ j. pass_view (paired-seen (λ s. stripe_place (seat_view s) (seat_claims s)) joined_stripe_place (λ v. v.seat) joined (λ v w. refl) js.new.seats.items r.stripes.items f.stripes.items js.ensures.joined j)
-    (paired-seen (λ s. size_place (seat_view s) (seat_claims s)) joined_size_place (λ v. size_seat v.seat v.claims) joined_size (λ v w. refl) jz.new.seats.items r.sizes.items f.sizes.items jz.ensures.joined j) r.locks.items r.caller (r.spare + f.spare) (c.later-last.ensures j))
+    (paired-seen (λ s. size_place (seat_view s) (seat_claims s)) joined_size_place (λ v. size_seat v.seat v.claims) joined_size (λ v w. refl) jz.new.seats.items r.sizes.items f.sizes.items jz.ensures.joined j) r.locks.items r.caller (r.spare + f.spare) (c.later-last.ensures j) r.begun)
     ∙ (λ j. joined_pass (c.into.view_is j) (c.from.view_is j)) in
     let both : JoinedHistories p q = joined-histories seat_view seat_claims seat_view seat_claims r.stripes.items f.stripes.items r.sizes.items f.sizes.items p q (ap (λ (v : PassView). v.stripes) c.into.view_is) (ap (λ (v : PassView). v.stripes) c.from.view_is) (ap (λ (v : PassView). v.sizes) c.into.view_is) (ap (λ (v : PassView). v.sizes) c.from.view_is) js.ensures.begins jz.ensures.begins in
     subst (IsPassOf m) (sym is) (of-joined m p q c.requires.of)
@@ -118,9 +118,9 @@ returns-clause-joined c =
     let spare : (r.spare ≡ 0) ⊎ (f.spare ≡ 0) = elim c.requires.can.spare [ inl e ↦ inl (ap (λ (v : PassView). v.spare) c.into.view_is ∙ e) | inr e ↦ inr (ap (λ (v : PassView). v.spare) c.from.view_is ∙ e) ] in
     let js = c.join_stripes in
     let jz = c.join_sizes in
-    let is : pass_view (map seat_view js.new.seats.items) (map (λ s. size_seat (seat_view s) (seat_claims s)) jz.new.seats.items) r.locks.items r.caller (r.spare + f.spare) c.later-last.result ≡ joined_pass p q =
+    let is : pass_view (map seat_view js.new.seats.items) (map (λ s. size_seat (seat_view s) (seat_claims s)) jz.new.seats.items) r.locks.items r.caller (r.spare + f.spare) c.later-last.result r.begun ≡ joined_pass p q =
     (λ j. pass_view (paired-seen (λ s. stripe_place (seat_view s) (seat_claims s)) joined_stripe_place (λ v. v.seat) joined (λ v w. refl) js.new.seats.items r.stripes.items f.stripes.items js.ensures.joined j)
-    (paired-seen (λ s. size_place (seat_view s) (seat_claims s)) joined_size_place (λ v. size_seat v.seat v.claims) joined_size (λ v w. refl) jz.new.seats.items r.sizes.items f.sizes.items jz.ensures.joined j) r.locks.items r.caller (r.spare + f.spare) (c.later-last.ensures j))
+    (paired-seen (λ s. size_place (seat_view s) (seat_claims s)) joined_size_place (λ v. size_seat v.seat v.claims) joined_size (λ v w. refl) jz.new.seats.items r.sizes.items f.sizes.items jz.ensures.joined j) r.locks.items r.caller (r.spare + f.spare) (c.later-last.ensures j) r.begun)
     ∙ (λ j. joined_pass (c.into.view_is j) (c.from.view_is j)) in
     let both : JoinedHistories p q = joined-histories seat_view seat_claims seat_view seat_claims r.stripes.items f.stripes.items r.sizes.items f.sizes.items p q (ap (λ (v : PassView). v.stripes) c.into.view_is) (ap (λ (v : PassView). v.stripes) c.from.view_is) (ap (λ (v : PassView). v.sizes) c.into.view_is) (ap (λ (v : PassView). v.sizes) c.from.view_is) js.ensures.begins jz.ensures.begins in
     is
@@ -135,9 +135,9 @@ returns-clause-histories c =
     let spare : (r.spare ≡ 0) ⊎ (f.spare ≡ 0) = elim c.requires.can.spare [ inl e ↦ inl (ap (λ (v : PassView). v.spare) c.into.view_is ∙ e) | inr e ↦ inr (ap (λ (v : PassView). v.spare) c.from.view_is ∙ e) ] in
     let js = c.join_stripes in
     let jz = c.join_sizes in
-    let is : pass_view (map seat_view js.new.seats.items) (map (λ s. size_seat (seat_view s) (seat_claims s)) jz.new.seats.items) r.locks.items r.caller (r.spare + f.spare) c.later-last.result ≡ joined_pass p q =
+    let is : pass_view (map seat_view js.new.seats.items) (map (λ s. size_seat (seat_view s) (seat_claims s)) jz.new.seats.items) r.locks.items r.caller (r.spare + f.spare) c.later-last.result r.begun ≡ joined_pass p q =
     (λ j. pass_view (paired-seen (λ s. stripe_place (seat_view s) (seat_claims s)) joined_stripe_place (λ v. v.seat) joined (λ v w. refl) js.new.seats.items r.stripes.items f.stripes.items js.ensures.joined j)
-    (paired-seen (λ s. size_place (seat_view s) (seat_claims s)) joined_size_place (λ v. size_seat v.seat v.claims) joined_size (λ v w. refl) jz.new.seats.items r.sizes.items f.sizes.items jz.ensures.joined j) r.locks.items r.caller (r.spare + f.spare) (c.later-last.ensures j))
+    (paired-seen (λ s. size_place (seat_view s) (seat_claims s)) joined_size_place (λ v. size_seat v.seat v.claims) joined_size (λ v w. refl) jz.new.seats.items r.sizes.items f.sizes.items jz.ensures.joined j) r.locks.items r.caller (r.spare + f.spare) (c.later-last.ensures j) r.begun)
     ∙ (λ j. joined_pass (c.into.view_is j) (c.from.view_is j)) in
     let both : JoinedHistories p q = joined-histories seat_view seat_claims seat_view seat_claims r.stripes.items f.stripes.items r.sizes.items f.sizes.items p q (ap (λ (v : PassView). v.stripes) c.into.view_is) (ap (λ (v : PassView). v.stripes) c.from.view_is) (ap (λ (v : PassView). v.sizes) c.into.view_is) (ap (λ (v : PassView). v.sizes) c.from.view_is) js.ensures.begins jz.ensures.begins in
     both
@@ -152,9 +152,9 @@ returns-clause-tickets c =
     let spare : (r.spare ≡ 0) ⊎ (f.spare ≡ 0) = elim c.requires.can.spare [ inl e ↦ inl (ap (λ (v : PassView). v.spare) c.into.view_is ∙ e) | inr e ↦ inr (ap (λ (v : PassView). v.spare) c.from.view_is ∙ e) ] in
     let js = c.join_stripes in
     let jz = c.join_sizes in
-    let is : pass_view (map seat_view js.new.seats.items) (map (λ s. size_seat (seat_view s) (seat_claims s)) jz.new.seats.items) r.locks.items r.caller (r.spare + f.spare) c.later-last.result ≡ joined_pass p q =
+    let is : pass_view (map seat_view js.new.seats.items) (map (λ s. size_seat (seat_view s) (seat_claims s)) jz.new.seats.items) r.locks.items r.caller (r.spare + f.spare) c.later-last.result r.begun ≡ joined_pass p q =
     (λ j. pass_view (paired-seen (λ s. stripe_place (seat_view s) (seat_claims s)) joined_stripe_place (λ v. v.seat) joined (λ v w. refl) js.new.seats.items r.stripes.items f.stripes.items js.ensures.joined j)
-    (paired-seen (λ s. size_place (seat_view s) (seat_claims s)) joined_size_place (λ v. size_seat v.seat v.claims) joined_size (λ v w. refl) jz.new.seats.items r.sizes.items f.sizes.items jz.ensures.joined j) r.locks.items r.caller (r.spare + f.spare) (c.later-last.ensures j))
+    (paired-seen (λ s. size_place (seat_view s) (seat_claims s)) joined_size_place (λ v. size_seat v.seat v.claims) joined_size (λ v w. refl) jz.new.seats.items r.sizes.items f.sizes.items jz.ensures.joined j) r.locks.items r.caller (r.spare + f.spare) (c.later-last.ensures j) r.begun)
     ∙ (λ j. joined_pass (c.into.view_is j) (c.from.view_is j)) in
     let both : JoinedHistories p q = joined-histories seat_view seat_claims seat_view seat_claims r.stripes.items f.stripes.items r.sizes.items f.sizes.items p q (ap (λ (v : PassView). v.stripes) c.into.view_is) (ap (λ (v : PassView). v.stripes) c.from.view_is) (ap (λ (v : PassView). v.sizes) c.into.view_is) (ap (λ (v : PassView). v.sizes) c.from.view_is) js.ensures.begins jz.ensures.begins in
     subst (KeepsTickets p) (sym is) (tickets-joined m p q c.requires.of c.requires.other both)

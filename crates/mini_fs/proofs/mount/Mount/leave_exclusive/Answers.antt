@@ -1,9 +1,9 @@
 use Rattle.std.proofs.Common.{◌≡◌, Some, ap, ◌∙◌, sym, subst}
 use Rattle.inode_lock.specs.View.{LockView}
 use Rattle.mini_fs.specs.Holds.{IsHoldOf, hold_view}
-use Rattle.mini_fs.specs.MountView.{MountView}
+use Rattle.mount_parts.specs.MountView.{MountView}
 use Rattle.mini_fs.specs.PassView.{PassView, IsPassOf}
-use Rattle.mini_fs.proofs.Places.{within}
+use Rattle.mount_parts.proofs.Places.{within}
 use Rattle.mini_fs.proofs.Seats.{lock-file, of-lock_home}
 use Rattle.mini_fs.proofs.mount.Mount.leave_exclusive.Goals as goal
 

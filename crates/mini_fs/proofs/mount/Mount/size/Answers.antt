@@ -1,8 +1,8 @@
 use Rattle.std.proofs.Common.{◌≡◌, Some, ap, ◌∙◌, sym, subst}
 use lib.ListN
 use Rattle.std.proofs.lemmas.List.{get_or_default}
-use Rattle.mini_fs.specs.MountView.{IsLaidOut, MountView, file_at, no_file}
-use Rattle.mini_fs.specs.declared.file.FilePlace.{FilePlace}
+use Rattle.mount_parts.specs.MountView.{IsLaidOut, MountView, file_at, no_file}
+use Rattle.mount_parts.specs.declared.file.FilePlace.{FilePlace}
 use Rattle.mini_fs.proofs.Layouts.{size-within, sized_file}
 use Rattle.mini_fs.proofs.mount.Mount.size.Goals as goal
 

@@ -1,7 +1,7 @@
-use Rattle.std.proofs.Common.{◌≡◌, ◌-◌, ◌<◌, map, ap, ◌∙◌, sym, subst, refl}
+use Rattle.std.proofs.Common.{None, ◌≡◌, ◌-◌, ◌<◌, map, ap, ◌∙◌, sym, subst, refl}
 use Rattle.std.specs.Prelude.{All}
 use Rattle.turn_cell.specs.Seats.{seat_claims, seat_view}
-use Rattle.mini_fs.specs.MountView.{MountView}
+use Rattle.mount_parts.specs.MountView.{MountView}
 use Rattle.mini_fs.specs.PassView.{IsPassOf, PassView, pass_view, size_seat}
 use Rattle.mini_fs.specs.Splits.{IsHome, SplitOff, given_share, given_size, given_stripe, kept_pass}
 use Rattle.mini_fs.specs.Tickets.{KeepsTickets}
@@ -75,8 +75,8 @@ returns-clause-of c =
     let stripes = c.split_stripes-stripes in
     let sizes = c.split_sizes-sizes in
     let locks = c.split_locks-locks in
-    let pass_is : pass_view (map seat_view stripes.new.seats.items) (map (λ s. size_seat (seat_view s) (seat_claims s)) sizes.new.seats.items) locks.new.seats.items r.caller (r.spare - 1) r.last ≡ kept_pass p =
-    (λ j. pass_view (stripes-kept seat_view seat_claims r.stripes.items stripes.new.seats.items stripes.ensures.kept j) (sizes-kept seat_view seat_claims r.sizes.items sizes.new.seats.items sizes.ensures.kept j) (locks.ensures.kept j) r.caller (r.spare - 1) r.last) ∙ ap kept_pass c.pass.view_is in
+    let pass_is : pass_view (map seat_view stripes.new.seats.items) (map (λ s. size_seat (seat_view s) (seat_claims s)) sizes.new.seats.items) locks.new.seats.items r.caller (r.spare - 1) r.last r.begun ≡ kept_pass p =
+    (λ j. pass_view (stripes-kept seat_view seat_claims r.stripes.items stripes.new.seats.items stripes.ensures.kept j) (sizes-kept seat_view seat_claims r.sizes.items sizes.new.seats.items sizes.ensures.kept j) (locks.ensures.kept j) r.caller (r.spare - 1) r.last r.begun) ∙ ap kept_pass c.pass.view_is in
     subst (IsPassOf m) (sym pass_is) (of-kept m p c.requires.of)
 
 pub returns-clause-ok : goal.returns-clause-ok
@@ -87,8 +87,8 @@ returns-clause-ok c =
     let stripes = c.split_stripes-stripes in
     let sizes = c.split_sizes-sizes in
     let locks = c.split_locks-locks in
-    let pass_is : pass_view (map seat_view stripes.new.seats.items) (map (λ s. size_seat (seat_view s) (seat_claims s)) sizes.new.seats.items) locks.new.seats.items r.caller (r.spare - 1) r.last ≡ kept_pass p =
-    (λ j. pass_view (stripes-kept seat_view seat_claims r.stripes.items stripes.new.seats.items stripes.ensures.kept j) (sizes-kept seat_view seat_claims r.sizes.items sizes.new.seats.items sizes.ensures.kept j) (locks.ensures.kept j) r.caller (r.spare - 1) r.last) ∙ ap kept_pass c.pass.view_is in
+    let pass_is : pass_view (map seat_view stripes.new.seats.items) (map (λ s. size_seat (seat_view s) (seat_claims s)) sizes.new.seats.items) locks.new.seats.items r.caller (r.spare - 1) r.last r.begun ≡ kept_pass p =
+    (λ j. pass_view (stripes-kept seat_view seat_claims r.stripes.items stripes.new.seats.items stripes.ensures.kept j) (sizes-kept seat_view seat_claims r.sizes.items sizes.new.seats.items sizes.ensures.kept j) (locks.ensures.kept j) r.caller (r.spare - 1) r.last r.begun) ∙ ap kept_pass c.pass.view_is in
     let spare : r.spare ≡ p.spare = ap (λ (v : PassView). v.spare) c.pass.view_is in
     let next = c.lowest-caller.ensures in
     let caller : c.lowest-caller.result ≡ 4294967296 - p.spare = next ∙ ap (λ n. 4294967296 - n) spare in
@@ -100,6 +100,7 @@ returns-clause-ok c =
       caller = caller;
       spare = refl;
       last = ap (λ (v : PassView). v.last) c.pass.view_is;
+      begun = refl;
     }
 
 pub returns-clause-made : goal.returns-clause-made
@@ -110,12 +111,12 @@ returns-clause-made c =
     let stripes = c.split_stripes-stripes in
     let sizes = c.split_sizes-sizes in
     let locks = c.split_locks-locks in
-    let pass_is : pass_view (map seat_view stripes.new.seats.items) (map (λ s. size_seat (seat_view s) (seat_claims s)) sizes.new.seats.items) locks.new.seats.items r.caller (r.spare - 1) r.last ≡ kept_pass p =
-    (λ j. pass_view (stripes-kept seat_view seat_claims r.stripes.items stripes.new.seats.items stripes.ensures.kept j) (sizes-kept seat_view seat_claims r.sizes.items sizes.new.seats.items sizes.ensures.kept j) (locks.ensures.kept j) r.caller (r.spare - 1) r.last) ∙ ap kept_pass c.pass.view_is in
+    let pass_is : pass_view (map seat_view stripes.new.seats.items) (map (λ s. size_seat (seat_view s) (seat_claims s)) sizes.new.seats.items) locks.new.seats.items r.caller (r.spare - 1) r.last r.begun ≡ kept_pass p =
+    (λ j. pass_view (stripes-kept seat_view seat_claims r.stripes.items stripes.new.seats.items stripes.ensures.kept j) (sizes-kept seat_view seat_claims r.sizes.items sizes.new.seats.items sizes.ensures.kept j) (locks.ensures.kept j) r.caller (r.spare - 1) r.last r.begun) ∙ ap kept_pass c.pass.view_is in
     let spare : r.spare ≡ p.spare = ap (λ (v : PassView). v.spare) c.pass.view_is in
     let next = c.lowest-caller.ensures in
     let caller : c.lowest-caller.result ≡ 4294967296 - p.spare = next ∙ ap (λ n. 4294967296 - n) spare in
-    let made : SplitOff m p (kept_pass p) (pass_view (map seat_view stripes.result.items) (map (λ s. size_seat (seat_view s) (seat_claims s)) sizes.result.items) locks.result.items c.lowest-caller.result 0 r.last) = record {
+    let made : SplitOff m p (kept_pass p) (pass_view (map seat_view stripes.result.items) (map (λ s. size_seat (seat_view s) (seat_claims s)) sizes.result.items) locks.result.items c.lowest-caller.result 0 r.last None) = record {
       left = refl;
       stripes = stripes-given seat_view seat_claims r.stripes.items stripes.result.items stripes.ensures.made ∙ ap (λ (v : PassView). map given_stripe v.stripes) c.pass.view_is;
       sizes = sizes-given seat_view seat_claims r.sizes.items sizes.result.items sizes.ensures.made ∙ ap (λ (v : PassView). map given_size v.sizes) c.pass.view_is;
@@ -123,6 +124,7 @@ returns-clause-made c =
       caller = caller;
       spare = refl;
       last = ap (λ (v : PassView). v.last) c.pass.view_is;
+      begun = refl;
     } in
     of-new m p (kept_pass p) _ c.requires.of made
 
@@ -134,6 +136,6 @@ returns-clause-tickets c =
     let stripes = c.split_stripes-stripes in
     let sizes = c.split_sizes-sizes in
     let locks = c.split_locks-locks in
-    let pass_is : pass_view (map seat_view stripes.new.seats.items) (map (λ s. size_seat (seat_view s) (seat_claims s)) sizes.new.seats.items) locks.new.seats.items r.caller (r.spare - 1) r.last ≡ kept_pass p =
-    (λ j. pass_view (stripes-kept seat_view seat_claims r.stripes.items stripes.new.seats.items stripes.ensures.kept j) (sizes-kept seat_view seat_claims r.sizes.items sizes.new.seats.items sizes.ensures.kept j) (locks.ensures.kept j) r.caller (r.spare - 1) r.last) ∙ ap kept_pass c.pass.view_is in
+    let pass_is : pass_view (map seat_view stripes.new.seats.items) (map (λ s. size_seat (seat_view s) (seat_claims s)) sizes.new.seats.items) locks.new.seats.items r.caller (r.spare - 1) r.last r.begun ≡ kept_pass p =
+    (λ j. pass_view (stripes-kept seat_view seat_claims r.stripes.items stripes.new.seats.items stripes.ensures.kept j) (sizes-kept seat_view seat_claims r.sizes.items sizes.new.seats.items sizes.ensures.kept j) (locks.ensures.kept j) r.caller (r.spare - 1) r.last r.begun) ∙ ap kept_pass c.pass.view_is in
     subst (KeepsTickets p) (sym pass_is) (tickets-kept p)

@@ -1,8 +1,8 @@
 use Rattle.std.proofs.Common.{◌≡◌, ◌+◌, ◌/◌, ◌<◌, length, arith, sym, subst, ap, ◌∙◌}
 use lib.ListN
 use Rattle.std.proofs.lemmas.List.{get_or_default, length-map}
-use Rattle.mini_fs.specs.MountView.{IsLaidOut, MountView, file_at, no_file}
-use Rattle.mini_fs.specs.declared.file.FilePlace.{FilePlace}
+use Rattle.mount_parts.specs.MountView.{IsLaidOut, MountView, file_at, no_file}
+use Rattle.mount_parts.specs.declared.file.FilePlace.{FilePlace}
 use Rattle.mini_fs.proofs.Layouts.{has_file, stripe-within}
 use Rattle.mini_fs.proofs.mount.Mount.stripe.Goals as goal
 

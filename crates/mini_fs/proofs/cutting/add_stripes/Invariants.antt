@@ -1,6 +1,0 @@
-use Rattle.std.proofs.Common.{◌≡◌, ◌++◌, map}
-use Rattle.mini_fs.specs.Pieces.{piece_of}
-use Rattle.mini_fs.proofs.cutting.add_stripes.Given as goal
-
-abbrev pub invariant-loop-stripe : goal.invariant-loop-stripe
-invariant-loop-stripe l = l.pieces.items ≡ l.initial.pieces.items ++ map (piece_of l.mode) l.yielded

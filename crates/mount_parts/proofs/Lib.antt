@@ -1,0 +1,11 @@
+pub mod Places
+pub mod Fronts
+pub mod Freshes
+mod Endings
+mod StripeEnds
+mod PoolEnds
+pub mod Openings
+pub mod Cuts
+pub mod Layings
+pub mod Placings
+pub mod Lookups
