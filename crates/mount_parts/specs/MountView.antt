@@ -62,12 +62,12 @@ LieInOrder stripe size [] stripes sizes = (stripe ≡ stripes) × (size ≡ size
 LieInOrder stripe size (f ∷ fs) stripes sizes = (f.stripe ≡ stripe) × IsNumbered size f.size × LieInOrder (stripe + stripes_of f.blocks) (size + size_cells f.size) fs stripes sizes
 
 -- A range was opened as the i-th stripe of a file, with a seat at this pool
-pub record IsStripe (geometry : Layout) (pool : TableId) (file : FilePlace) (i : ℕ) (opening : RangeView) : Type 0 where
+pub record IsStripe (geometry : Layout) (home : TableId) (file : FilePlace) (i : ℕ) (opening : RangeView) : Type 0 where
   pub sizes : opening.geometry ≡ geometry
   pub mode : opening.mode ≡ file.mode
   pub first : opening.first ≡ i * 64
   pub blocks : length opening.cells ≡ min 64 (file.blocks - i * 64)
-  pub pool : opening.seat.cell ≡ pool
+  pub pool : opening.seat.cell ≡ home
 
 -- The files of a mount, each of at most 65,536 blocks: their stripes and size cells lie in the order of the files, each stripe has its blocks, each size ends with its file's blocks, and each file has a lock
 pub record IsLaidOut (m : MountView) : Type 0 where
