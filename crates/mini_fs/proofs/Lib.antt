@@ -8,3 +8,4 @@ pub mod Through
 pub mod Splitting
 pub mod SplitPasses
 pub mod JoinPasses
+pub mod ActLemmas

@@ -6,3 +6,4 @@ pub mod SizeTurns
 pub mod Splits
 pub mod Places
 pub mod Joins
+pub mod Acts

@@ -13,6 +13,7 @@
 //! - `crossing`: a mount is shared by threads
 #![tactic(auto)]
 
+mod acts;
 mod begun;
 mod crossing;
 mod hold;
@@ -25,6 +26,7 @@ mod split;
 mod ticket;
 mod turn;
 
+pub use acts::{acts_add_up, acts_are_seen};
 pub use begun::Begun;
 pub use crossing::mounts_are_shared;
 pub use hold::{CachedHold, DirectHold, ExclusiveHold};
