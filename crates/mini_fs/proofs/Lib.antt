@@ -9,3 +9,4 @@ pub mod Splitting
 pub mod SplitPasses
 pub mod JoinPasses
 pub mod ActLemmas
+pub mod Starts

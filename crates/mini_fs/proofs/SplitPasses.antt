@@ -33,13 +33,13 @@ of-kept m p is = record {
 pub tickets-kept : (p : PassView) → KeepsTickets p (kept_pass p)
 tickets-kept p t is = record { caller = is.caller; seat = kept_stripe is.seat; here = map-there kept_stripe p.stripes t.stripe is.seat is.here; loan = record { cell = is.loan.cell; begins = is.loan.begins; made = is.loan.made; share = is.loan.share } }
 
-fresh-length : (ids : List TableId) (places : List (Option LockView)) → AreFresh ids places → length places ≡ length ids
+pub fresh-length : (ids : List TableId) (places : List (Option LockView)) → AreFresh ids places → length places ≡ length ids
 fresh-length [] [] are = refl
 fresh-length [] (p ∷ places) are = absurd are
 fresh-length (id ∷ ids) [] are = absurd are
 fresh-length (id ∷ ids) (p ∷ places) are = ap suc (fresh-length ids places are.1)
 
-fresh-home : (ids : List TableId) (places : List (Option LockView)) (f : ℕ) (id : TableId) (seat : LockView) → AreFresh ids places → slice_get ids f ≡ Some id → slice_get places f ≡ Some (Some seat) → seat.lock ≡ id
+pub fresh-home : (ids : List TableId) (places : List (Option LockView)) (f : ℕ) (id : TableId) (seat : LockView) → AreFresh ids places → slice_get ids f ≡ Some id → slice_get places f ≡ Some (Some seat) → seat.lock ≡ id
 fresh-home [] places f id seat are at there = absurd (none-some id at)
 fresh-home (d ∷ ids) [] f id seat are at there = absurd are
 fresh-home (d ∷ ids) (p ∷ places) zero id seat are at there =

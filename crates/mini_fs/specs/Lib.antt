@@ -7,3 +7,4 @@ pub mod Splits
 pub mod Places
 pub mod Joins
 pub mod Acts
+pub mod Starts

@@ -4,7 +4,7 @@
 //! file that has one as the value of a cell of its own. It holds no seat, so threads share it. A caller goes to it with a
 //! pass, which has a seat at each cell and lock.
 //!
-//! - `mount`: the mount
+//! - `mount`, `start`: the mount, and how it begins
 //! - `pass`, `begun`: a caller's seats and numbers, and the mapping that it began
 //! - `turn`, `size`: one turn of a pass, at a stripe and at a size
 //! - `split`, `join`: how a pass is split for another caller, and how two passes are joined
@@ -23,6 +23,7 @@ mod mount;
 mod pass;
 mod size;
 mod split;
+mod start;
 mod ticket;
 mod turn;
 

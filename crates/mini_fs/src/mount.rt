@@ -4,7 +4,7 @@ ghost use Rattle.turn_cell.specs.Seats.{cell_view};
 
 use crossbeam_utils::CachePadded;
 use inode_lock::InodeLock;
-use iob_base::{FileId, Geometry, Mode, STRIPE};
+use iob_base::{FileId, Geometry, Mode, STRIPE, Sector};
 use mount_parts::FilePlace;
 use range_core::Range;
 use size_core::Sizes;
@@ -21,16 +21,19 @@ use turn_cell::TurnCell;
 ///
 /// The stripes of the files lie in the order of the files, and so do the size cells of those that have a size. Each stripe
 /// was opened with 64 blocks of its file, or with those that are left at its end, and each size with its file's end. Each
-/// file has a lock. A mount has no seat.
+/// file has a lock. A mount has no seat; those of the stripes at the pool have its whole share. Where there is a file, no
+/// sector is idle.
 #[derive(Drop)]
 pub struct Mount {
-    alloc: Global,
-    geometry: Geometry,
-    files: Vec<FilePlace>,
-    stripes: Vec<CachePadded<TurnCell<Range>>>,
-    sizes: Vec<CachePadded<TurnCell<Sizes>>>,
-    locks: Vec<InodeLock>,
-    pool: SpacePool,
+    pub(crate) alloc: Global,
+    pub(crate) geometry: Geometry,
+    pub(crate) files: Vec<FilePlace>,
+    pub(crate) stripes: Vec<CachePadded<TurnCell<Range>>>,
+    pub(crate) sizes: Vec<CachePadded<TurnCell<Sizes>>>,
+    pub(crate) locks: Vec<InodeLock>,
+    pub(crate) pool: SpacePool,
+    // The sectors of a device without files.
+    pub(crate) idle: Vec<Sector>,
 }
 
 impl Model for Mount {
@@ -42,9 +45,9 @@ impl Model for Mount {
 
     ghost Value = { MountView };
 
-    ghost view = { λ m. mount_view m.geometry m.files.items (map (λ c. cell_view (padded_value c)) m.stripes.items) (map (λ c. cell_view (padded_value c)) m.sizes.items) m.locks.items (pool_cell m.pool) };
+    ghost view = { λ m. mount_view m.geometry m.files.items (map (λ c. cell_view (padded_value c)) m.stripes.items) (map (λ c. cell_view (padded_value c)) m.sizes.items) m.locks.items (pool_cell m.pool) m.idle.items };
 
-    ghost invariant = { λ m. IsLaidOut (mount_view m.geometry m.files.items (map (λ c. cell_view (padded_value c)) m.stripes.items) (map (λ c. cell_view (padded_value c)) m.sizes.items) m.locks.items (pool_cell m.pool)) };
+    ghost invariant = { λ m. IsLaidOut (mount_view m.geometry m.files.items (map (λ c. cell_view (padded_value c)) m.stripes.items) (map (λ c. cell_view (padded_value c)) m.sizes.items) m.locks.items (pool_cell m.pool) m.idle.items) };
 }
 
 impl Mount {

@@ -6,6 +6,9 @@ mod StripeEnds
 mod PoolEnds
 pub mod Openings
 pub mod Cuts
+pub mod Trimmings
 pub mod Layings
 pub mod Placings
 pub mod Lookups
+pub mod LaidOut
+pub mod DeviceContents

@@ -3,5 +3,8 @@ pub mod Locks
 pub mod Ends
 pub mod SizeEnds
 pub mod PoolEnds
+pub mod Trims
 pub mod Pieces
+pub mod FirstSizes
+pub mod OpeningContents
 pub mod FilePlaces

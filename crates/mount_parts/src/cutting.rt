@@ -12,12 +12,17 @@ use iob_base::{Mode, Sector};
 use std::alloc::{AllocError, Global};
 use std::vec::IntoIter;
 
-// Adds stripes of a file of this mode at the end.
-fn add_stripes(mode: Mode, stripes: Vec<Stripe>, pieces: &mut Vec<Piece>) -> Result<(), AllocError>
-    ensures { OnOk result (pieces.new.items ≡ pieces.old.items ++ map (piece_of mode) stripes.items) }
+// Adds stripes of a file of this mode and size at the end.
+fn add_stripes(
+    mode: Mode,
+    size: Option<u64>,
+    stripes: Vec<Stripe>,
+    pieces: &mut Vec<Piece>,
+) -> Result<(), AllocError>
+    ensures { OnOk result (pieces.new.items ≡ pieces.old.items ++ map (piece_of mode size) stripes.items) }
 {
     for stripe in stripes {
-        pieces.push(Piece { mode, stripe })?;
+        pieces.push(Piece { mode, size, stripe })?;
     }
     Ok(())
 }
@@ -34,11 +39,11 @@ fn cut_file(
     ensures { OnOk result (AddsFile file.now pieces.old.items (into_iter_items held.old) pieces.new.items (into_iter_items held.new)) }
 {
     let stripes = cut_stripes(alloc, file, held)?;
-    add_stripes(file.mode, stripes, pieces)
+    add_stripes(file.mode, file.size, stripes, pieces)
 }
 
 /// The stripes of files, in order of file and block, with these sectors, which are those of the files' blocks in order.
-pub fn cut_files(
+pub(crate) fn cut_files(
     alloc: Global,
     files: &[FileSpec],
     held: Vec<Sector>,

@@ -6,7 +6,7 @@ use inode_lock::{InodeLock, LockSeat};
 use std::alloc::{AllocError, Global};
 
 /// So many locks that nobody holds, and the first seat at each. Want of memory is the only error.
-pub fn open_locks(
+pub(crate) fn open_locks(
     alloc: Global,
     count: usize,
 ) -> Result<(Vec<InodeLock>, Vec<Option<LockSeat>>), AllocError>

@@ -35,7 +35,7 @@ fn cells_in(size: Option<usize>) -> usize
 }
 
 /// Where files lie, in order. Want of memory is the only error.
-pub fn place_files(alloc: Global, files: &[FileSpec]) -> Result<Vec<FilePlace>, AllocError>
+pub(crate) fn place_files(alloc: Global, files: &[FileSpec]) -> Result<Vec<FilePlace>, AllocError>
     requires files { All IsFile files.now }
     requires few { length files.now < 2 ^ 32 }
     ensures { IfOk result (λ places. places.items ≡ places_from 0 0 files.now) }

@@ -1,0 +1,44 @@
+use Rattle.std.proofs.Common.{◌≡◌, List, map, refl, sym, subst, ap, ◌∙◌}
+use Rattle.std.proofs.lemmas.Simd.{map-map}
+use Rattle.crossbeam_utils.specs.Padded.{padded_value}
+use Rattle.turn_cell.specs.Seats.{cell_view, seat_claims, seat_view}
+use Rattle.turn_cell.specs.Views.{CellView}
+use Rattle.space_pool.specs.Seats.{pool_cell}
+use Rattle.range_core.specs.RangeView.{RangeView}
+use Rattle.size_core.specs.SizesView.{SizesView}
+use Rattle.mount_parts.specs.OpeningContents.{HaveContents}
+use Rattle.mount_parts.specs.Pieces.{LaidStripes, is_first_at}
+use Rattle.mini_fs.specs.PassView.{IsPassOf, pass_view, size_seat}
+use Rattle.mini_fs.specs.Starts.{Started}
+use Rattle.mini_fs.proofs.Starts.{first-of, fresh-homes, sizes-first, sizes-seen}
+use Rattle.mini_fs.proofs.mount.Mount.start.Goals as goal
+
+pub invariant_of-pass : goal.invariant_of-pass
+invariant_of-pass c = (c.in_ok-laid.ensures.stripe_claims, sizes-first seat_claims c.in_ok-laid.laid.size_seats.items c.in_ok-laid.ensures.size_claims)
+
+pub returns-clause-started : goal.returns-clause-started
+returns-clause-started c =
+    let laid = c.in_ok-laid.laid in
+    let e = c.in_ok-laid.ensures in
+    let pool = pool_cell laid.pool in
+    let opened = sym (map-map (λ (v : CellView RangeView). v.opening) (λ k. cell_view (padded_value k)) laid.stripes.items) in
+    let L : List RangeView → Type 0 = λ os. LaidStripes c.args.geometry c.args.first_cookie c.args.sectors.items c.args.files.items os pool laid.idle.items in
+    let H : List RangeView → Type 0 = λ os. HaveContents c.args.geometry.block_size c.args.sectors.items c.args.files.items os in
+    record {
+      geometry_is = refl;
+      files_are = ?;
+      stripes = ?;
+      contents = ?;
+      sizes = ?;
+      stripe_seats = e.stripe_seats ∙ sym (map-map is_first_at (λ k. cell_view (padded_value k)) laid.stripes.items);
+      size_seats = sizes-seen seat_view seat_claims laid.size_seats.items (map (λ k. cell_view (padded_value k)) laid.sizes.items) (e.size_seats ∙ sym (map-map is_first_at (λ k. cell_view (padded_value k)) laid.sizes.items)) e.size_claims;
+      lock_seats = e.lock_seats;
+      home = fresh-homes laid.locks.items laid.lock_seats.items e.lock_seats;
+      caller = refl;
+      spare = refl;
+      last = refl;
+      begun = refl;
+    }
+
+pub returns-clause-of : goal.returns-clause-of
+returns-clause-of c = ?
