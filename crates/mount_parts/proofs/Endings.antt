@@ -133,6 +133,7 @@ module _ (opening value : RangeView) (seat : SeatView Entry) (claims : ClaimsVie
         sector_is = subst (λ k. HasSector size (device_number k) c.sector) (sym kind) has;
         dirty_is = dirty-page c.dirty c.page _ true_at.dirty_is_uptodate ∙ ap (λ (s : BlockState). s.dirty) state;
         content_is = ap (λ k. final_content size (mapped_number k) c.sector (if c.dirty then c.page else None)) kind ∙ final size c (content_at opening seat.seen i) has on true_at.uptodate_is_replay _ true_at.dirty_is_uptodate ∙ ap (λ o. replayed size b (opening_bytes size o) seat.seen) old;
+        whole = ap (λ o. length (replayed size b (opening_bytes size o) seat.seen)) (sym old) ∙ true_at.whole;
         journal_is = ap (λ n. stamps_at (n + i) value.log) first ∙ ap (stamps_at b) holds.journal_is_history;
       }
 
@@ -149,6 +150,7 @@ module _ (opening value : RangeView) (seat : SeatView Entry) (claims : ClaimsVie
             let c = there value.cells i (let n = run.blocks in omega arith) in
             let is : end ≡ with_stamps (value.first + i) value.log c.0 = ends-at value.first value.log value.cells i c.0 end c.1 (ap (λ l. slice_get l i) (sym are) ∙ here) in
             subst (EndsBlock opening.geometry.block_size (opening.first + i) was opening.log seat.seen (kind_at extents (opening.first + i))) (sym is) (block-ends extents kinds i was c.0 old c.1);
+        happened = closed.stands.holds.has_happened;
       }
 
   pub space-ends : (ends : List BlockEnd) (own : SeatView PoolEntry) (space : SpaceClaims) → IsSound value → ends ≡ journaled value.first value.log (map bare_end value.cells) → own ≡ value.seat → space ≡ value.space

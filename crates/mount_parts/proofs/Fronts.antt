@@ -1,10 +1,8 @@
 -- A list is taken from its front.
-use Rattle.std.proofs.Common.{◌≡◌, ℕ, zero, suc, ◌+◌, ◌<◌, get_or, arith, List, [], ◌∷◌, ◌++◌, length, map, set, take, Some, refl, sym, ap, ◌∙◌, drop}
+use Rattle.std.proofs.Common.{◌≡◌, ℕ, zero, suc, ◌+◌, arith, List, [], ◌∷◌, ◌++◌, take, Some, sym, ap, ◌∙◌, drop}
 use Rattle.std.specs.Prelude.{slice_get}
-use Rattle.std.proofs.lemmas.List.{map-append, map-set}
-use Rattle.mount_parts.proofs.Places.{map-there}
-use Rattle.std.proofs.lemmas.Option.{slice_get_read}
-use Rattle.std.proofs.lemmas.Option.{none-some}
+use Rattle.std.proofs.Math.Seq.{take-add}
+use Rattle.std.proofs.lemmas.List.{drop-drop}
 
 module _ {A : Type 0} where
   -- what stands in front of the rest of a list, and what is left behind it
@@ -22,3 +20,10 @@ module _ {A : Type 0} where
 
   pub front-rest : (xs : List A) (i : ℕ) (x : A) (rest : List A) → drop i xs ≡ x ∷ rest → rest ≡ drop (i + 1) xs
   front-rest xs i x rest is = front-drop xs i x rest is ∙ ap (λ n. drop n xs) (let e : suc i ≡ i + 1 = omega arith in e)
+
+  -- the items from the front, and what is left behind them, with one taken more
+  pub taken-more : (n : ℕ) (old held taken more : List A) → taken ≡ take n old → held ≡ drop n old → more ≡ taken ++ take 1 held → more ≡ take (n + 1) old
+  taken-more n old held taken more t h e = e ∙ ap (λ l. l ++ take 1 held) t ∙ ap (λ l. take n old ++ take 1 l) h ∙ sym (take-add n 1 old)
+
+  pub taken-drop : (n : ℕ) (old held rest : List A) → held ≡ drop n old → rest ≡ drop 1 held → rest ≡ drop (n + 1) old
+  taken-drop n old held rest h r = r ∙ ap (drop 1) h ∙ drop-drop 1 n old

@@ -12,3 +12,8 @@ pub mod Placings
 pub mod Lookups
 pub mod LaidOut
 pub mod DeviceContents
+mod FileRuns
+mod FileEndings
+mod Lies
+mod Weights
+mod Unmountings

@@ -66,3 +66,7 @@ module _ {A : Type 0} where
 
   pub same-at : {B : Type 0} (f : A → B) (xs : List A) (b : B) (i : ℕ) (x : A) → All (λ y. f y ≡ b) xs → slice_get xs i ≡ Some x → f x ≡ b
   same-at f xs b i x all is = all-at (λ y. f y ≡ b) xs i x all is
+
+  -- where two lists are seen alike, they are as long, however they are seen
+  pub seen-long : {B D S C : Type 0} (f : A → D) (g : B → D) (u : A → S) (v : B → C) (xs : List A) (ys : List B) → map f xs ≡ map g ys → length (map u xs) ≡ length (map v ys)
+  seen-long f g u v xs ys same = length-map xs u ∙ same-length f g xs ys same ∙ sym (length-map ys v)

@@ -17,26 +17,29 @@ use Rattle.range_core.specs.BlockStates.{state_of, states_replayed}
 use Rattle.range_core.specs.Cells.{HasSector}
 use Rattle.range_core.specs.ClaimsView.{ClaimsView}
 use Rattle.range_core.specs.EntryStamps.{stamps_in}
+use Rattle.range_core.specs.Happened.{HasHappened}
 use Rattle.range_core.specs.RangeView.{RangeView, part_in}
 use Rattle.range_core.specs.Space.{SpaceClaims}
 use Rattle.range_core.specs.Stamps.{stamps_at}
 use Rattle.range_core.specs.declared.cell.Cell.{Cell}
 use Rattle.range_core.specs.declared.entry.Entry.{Entry}
 
--- Block b ends as this history leaves what it was at the opening, where `log` has the stamps from before: its kind, the sector of that kind, a dirty page exactly where the history leaves it dirty, the replay as its content, and its stamps in order
+-- Block b ends as this history leaves what it was at the opening, where `log` has the stamps from before: its kind, the sector of that kind, a dirty page exactly where the history leaves it dirty, the replay as its content, which has the length of a block, and its stamps in order
 pub record EndsBlock (size b : ℕ) (was : Cell) (log : List (ℕ × Stamp)) (history : List Entry) (kind : Kind) (end : BlockEnd) : Type 0 where
   pub kind_is : kind ≡ (states_replayed size b (state_of was) history).kind
   pub sector_is : HasSector size (device_number kind) end.sector
   pub dirty_is : is_some end.dirty ≡ (states_replayed size b (state_of was) history).dirty
   pub content_is : final_content size (mapped_number kind) end.sector end.dirty ≡ replayed size b (opening_bytes size (Some was)) history
+  pub whole : length (replayed size b (opening_bytes size (Some was)) history) ≡ size
   pub journal_is : end.journal ≡ stamps_at b (log ++ stamps_in size history)
 
--- The blocks of a range end as this history leaves them, and the extents are merged and give each its kind
+-- The blocks of a range end as this history, which is one that can have happened, leaves them, and the extents are merged and give each its kind
 pub record EndsRange (opening : RangeView) (history : List Entry) (extents : List Extent) (ends : List BlockEnd) : Type 0 where
   pub merged : IsTrue (is_merged_from opening.first (opening.first + length opening.cells) extents)
   pub count : length ends ≡ length opening.cells
   pub blocks : (i : ℕ) (was : Cell) (end : BlockEnd) → slice_get opening.cells i ≡ Some was → slice_get ends i ≡ Some end
       → EndsBlock opening.geometry.block_size (opening.first + i) was opening.log history (kind_at extents (opening.first + i)) end
+  pub happened : HasHappened opening history
 
 -- the number of a block's sector, where it has one
 abbrev pub sector_number : Option DeviceBlock → List ℕ

@@ -8,3 +8,5 @@ pub mod Pieces
 pub mod FirstSizes
 pub mod OpeningContents
 pub mod FilePlaces
+pub mod FileEnds
+pub mod Unmounts

@@ -15,7 +15,10 @@ use turn_cell::{TurnCell, TurnSeat};
 /// # Errors
 ///
 /// Want of memory, which drops the range.
-pub fn close_range(cell: TurnCell<Range>, seat: TurnSeat<Range>) -> Result<RangeEnd, AllocError>
+pub(crate) fn close_range(
+    cell: TurnCell<Range>,
+    seat: TurnSeat<Range>,
+) -> Result<RangeEnd, AllocError>
     requires cell { IsSeatOf cell seat }
     requires whole { (seat_view seat).share ≡ 2 ^ 63 }
     requires free { (seat_claims seat).held ≡ None }

@@ -10,7 +10,7 @@ use iob_base::STRIPE;
 use std::alloc::{AllocError, Global};
 
 // How many stripes so many blocks make.
-fn stripes_in(blocks: u64) -> usize
+pub(crate) fn stripes_in(blocks: u64) -> usize
     requires { blocks ≤ 65536 }
     ensures { result ≡ stripes_of blocks }
 {

@@ -1,5 +1,5 @@
 //! The pool of a mount is closed once all its seats are one.
-ghost use Rattle.std.specs.Prelude.{◌≡◌, ℕ, ◌+◌, ◌^◌, All, map};
+ghost use Rattle.std.specs.Prelude.{◌≡◌, ℕ, ◌+◌, ◌<◌, ◌^◌, [], All, length, map};
 ghost use Rattle.turn_cell.specs.Seats.{seat_claims, seat_view};
 ghost use Rattle.turn_cell.specs.Stakes.{total};
 ghost use Rattle.space_pool.specs.Seats.{pool_cell};
@@ -25,10 +25,10 @@ fn join_seats(pool: &SpacePool, keeper: &mut PoolSeat, seats: Vec<PoolSeat>)
     }
 }
 
-/// The free sectors of a pool, in the order of their numbers. `keeper` and the other seats have the whole share together.
-///
-/// The numbers of these sectors and those that the seats claim are the numbers that the pool began with, each once.
-pub fn close_pool(pool: SpacePool, mut keeper: PoolSeat, seats: Vec<PoolSeat>) -> Vec<Sector>
+// The free sectors of a pool, in the order of their numbers. `keeper` and the other seats have the whole share together.
+//
+// The numbers of these sectors and those that the seats claim are the numbers that the pool began with, each once.
+fn close_pool(pool: SpacePool, mut keeper: PoolSeat, seats: Vec<PoolSeat>) -> Vec<Sector>
     requires keeper { (seat_view keeper).cell ≡ (pool_cell pool).cell }
     requires seats { All (λ s. (seat_view s).cell ≡ (pool_cell pool).cell) seats.items }
     requires whole { (seat_view keeper).share + shares (map seat_view seats.items) ≡ 2 ^ 63 }
@@ -36,4 +36,19 @@ pub fn close_pool(pool: SpacePool, mut keeper: PoolSeat, seats: Vec<PoolSeat>) -
 {
     join_seats(&pool, &mut keeper, seats);
     pool.close(keeper)
+}
+
+// The free sectors of a pool whose seats, one of each stripe, have the whole share together. Without a stripe the pool has no
+// sectors, and the idle ones are free.
+pub(crate) fn end_pool(pool: SpacePool, mut seats: Vec<PoolSeat>, idle: Vec<Sector>) -> Vec<Sector>
+    requires seats { All (λ s. (seat_view s).cell ≡ (pool_cell pool).cell) seats.items }
+    requires whole { 0 < length seats.items → shares (map seat_view seats.items) ≡ 2 ^ 63 }
+    requires idle { 0 < length seats.items → idle.items ≡ [] }
+    ensures pool { 0 < length seats.items → EndsPool (pool_cell pool).opening (λ f. claimed f (map seat_claims seats.items)) result.items }
+    ensures idle { length seats.items ≡ 0 → result.items ≡ idle.items }
+{
+    let Some(keeper) = seats.pop() else {
+        return idle;
+    };
+    close_pool(pool, keeper, seats)
 }

@@ -17,7 +17,7 @@ use turn_cell::{TurnCell, TurnSeat};
 /// # Errors
 ///
 /// Want of memory, which drops the cells and the seats.
-pub fn close_ranges(
+pub(crate) fn close_ranges(
     alloc: Global,
     cells: Vec<CachePadded<TurnCell<Range>>>,
     seats: Vec<TurnSeat<Range>>,

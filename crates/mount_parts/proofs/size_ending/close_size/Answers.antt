@@ -8,9 +8,9 @@ returns c =
     record {
       saw = record { once = closed.once; refused = closed.refused };
       ends = record {
-        size_is = c.end.ensures.size ∙ holds.size_is_replay;
-        within = (let s = c.end.ensures.size in let w = holds.within in let e = holds.same_end in omega arith);
+        size_is = c.end-size.ensures.size ∙ holds.size_is_replay;
+        within = (let s = c.end-size.ensures.size in let w = holds.within in let e = holds.same_end in omega arith);
         looks = holds.looks_found_replays;
-        journal_is = c.end.ensures.stamps ∙ holds.journal_is_history;
+        journal_is = c.from_vec.ensures ∙ c.end-size.ensures.stamps ∙ holds.journal_is_history;
       };
     }
