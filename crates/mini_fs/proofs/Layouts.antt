@@ -1,8 +1,12 @@
 -- Where the stripes of a file lie.
-use Rattle.std.proofs.Common.{◌≡◌, ℕ, zero, suc, ◌+◌, ◌<◌, ◌≤◌, List, [], ◌∷◌, length, get_or, refl, sym, ◌∙◌, arith}
+use Rattle.std.proofs.Common.{◌≡◌, ℕ, zero, suc, ◌+◌, ◌-◌, ◌<◌, ◌≤◌, List, [], ◌∷◌, length, get_or, refl, sym, ap, ◌∙◌, arith}
 use Rattle.std.proofs.lemmas.List.{get_or_past}
-use Rattle.std.specs.Prelude.{◌/◌, Option, Some, None}
+use Rattle.std.specs.Prelude.{◌/◌, Bool, true, false, nat_lt, Option, Some, None, slice_get}
+use Rattle.std.proofs.lemmas.Bool.Decides.{nat_tests}
 use Rattle.std.proofs.lemmas.Option.{none-some}
+use Rattle.turn_cell.specs.Views.{CellView}
+use Rattle.range_core.specs.RangeView.{RangeView}
+use Rattle.mount_parts.proofs.Places.{within}
 use Rattle.mini_fs.specs.SizeTurns.{HasSize}
 use Rattle.iob_base.specs.declared.stamp.FileId.{FileId}
 use Rattle.mount_parts.specs.MountView.{MountView, IsNumbered, LieInOrder, HasBlock, HasFile, IsLaidOut, no_file, file_at, size_cells, stripe_at, stripes_of}
@@ -52,3 +56,27 @@ size-within m file at laid e = lies-size m.files 0 0 (length m.stripes) (length 
 -- a file with a size exists
 pub sized_file : (m : MountView) (file : FileId) → HasSize m file → HasFile m file
 sized_file m file has = grind (arith, get_or_past)
+
+-- a stripe of a mount is one of its files
+stripe-of : (fs : List FilePlace) (from size stripes sizes k : ℕ) → LieInOrder from size fs stripes sizes → from ≤ k → k < stripes → (f : ℕ) × (file : FilePlace) × (i : ℕ) × (slice_get fs f ≡ Some file) × (i < stripes_of file.blocks) × (file.stripe + i ≡ k)
+stripe-of [] from size stripes sizes k lies low below = let e = lies.0 in absurd (omega arith)
+stripe-of (f ∷ fs) from size stripes sizes k lies low below = by (nat_lt k (from + stripes_of f.blocks)) refl (λ past. stripe-of fs (from + stripes_of f.blocks) (size + size_cells f.size) stripes sizes k lies.2 past below)
+  where
+    by : (b : Bool) → nat_lt k (from + stripes_of f.blocks) ≡ b
+        → (from + stripes_of f.blocks ≤ k → (n : ℕ) × (file : FilePlace) × (i : ℕ) × (slice_get fs n ≡ Some file) × (i < stripes_of file.blocks) × (file.stripe + i ≡ k))
+        → (n : ℕ) × (file : FilePlace) × (i : ℕ) × (slice_get (f ∷ fs) n ≡ Some file) × (i < stripes_of file.blocks) × (file.stripe + i ≡ k)
+    by true e rest =
+        let first = lies.0 in
+        let less : k < from + stripes_of f.blocks = grind (arith, nat_tests) in
+        (0, f, k - from, refl, omega arith, omega arith)
+    by false e rest =
+        let past : from + stripes_of f.blocks ≤ k = grind (arith, nat_tests) in
+        let h = rest past in
+        (suc h.0, h.1, h.2, h.3, h.4, h.5)
+
+-- each stripe was opened with the sizes of the mount
+pub stripe-sizes : (m : MountView) (k : ℕ) (cell : CellView RangeView) → IsLaidOut m → slice_get m.stripes k ≡ Some cell → cell.opening.geometry ≡ m.geometry
+stripe-sizes m k cell laid here =
+    let h = stripe-of m.files 0 0 (length m.stripes) (length m.sizes) k laid.order (omega arith) (within m.stripes k cell here) in
+    let there : slice_get m.stripes (h.1.stripe + h.2) ≡ Some cell = ap (slice_get m.stripes) h.5 ∙ here in
+    (laid.stripes h.0 h.1 h.2 cell h.3 h.4 there).sizes

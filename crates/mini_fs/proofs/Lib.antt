@@ -10,3 +10,4 @@ pub mod SplitPasses
 pub mod JoinPasses
 pub mod ActLemmas
 pub mod Starts
+pub mod Loaned

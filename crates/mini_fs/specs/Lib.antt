@@ -8,3 +8,4 @@ pub mod Places
 pub mod Joins
 pub mod Acts
 pub mod Starts
+pub mod Loans

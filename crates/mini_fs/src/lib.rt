@@ -9,6 +9,7 @@
 //! - `turn`, `size`: one turn of a pass, at a stripe and at a size
 //! - `split`, `join`: how a pass is split for another caller, and how two passes are joined
 //! - `ticket`: the seat that carries a loan, and the turns that lend and take back
+//! - `lends`, `returns`: the events that lend on a ticket and take back from one
 //! - `hold`, `locks`: a class of a file's lock, and how a pass takes and leaves it
 //! - `crossing`: a mount is shared by threads
 #![tactic(auto)]
@@ -18,9 +19,11 @@ mod begun;
 mod crossing;
 mod hold;
 mod join;
+mod lends;
 mod locks;
 mod mount;
 mod pass;
+mod returns;
 mod size;
 mod split;
 mod start;
