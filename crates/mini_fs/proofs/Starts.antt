@@ -3,9 +3,6 @@ use Rattle.std.proofs.Common.{◌≡◌, ℕ, suc, List, [], ◌∷◌, length, 
 use Rattle.std.specs.Prelude.{All}
 use Rattle.std.proofs.lemmas.List.Elements.{All-cons, All-head, All-nil, All-tail, All-weaker}
 use Rattle.atomic_table.specs.Seated.{TableId}
-use Rattle.iob_base.specs.DeviceBlock.{DeviceBlock}
-use Rattle.iob_base.specs.Layout.{Layout}
-use Rattle.io_model.specs.declared.file.FileSpec.{FileSpec}
 use Rattle.inode_lock.specs.View.{LockView, fresh}
 use Rattle.turn_cell.specs.Views.{CellView, SeatView}
 use Rattle.range_core.specs.declared.entry.Entry.{Entry}
@@ -17,7 +14,7 @@ use Rattle.mount_parts.specs.MountView.{MountView}
 use Rattle.mount_parts.specs.Pieces.{is_first_at}
 use Rattle.mini_fs.specs.PassView.{IsPassOf, IsSizeSeat, PassView, SizeSeat, size_claims, size_seat}
 use Rattle.mini_fs.specs.Splits.{IsHome}
-use Rattle.mini_fs.specs.Starts.{Started, first_size_seat}
+use Rattle.mini_fs.specs.Starts.{first_size_seat}
 use Rattle.mini_fs.proofs.SplitPasses.{fresh-home, fresh-length}
 use Rattle.mini_fs.proofs.Through.{map-map}
 
@@ -49,10 +46,10 @@ fresh-homes [] (p ∷ places) are = absurd are
 fresh-homes (id ∷ ids) [] are = absurd are
 fresh-homes (id ∷ ids) (p ∷ places) are = All-cons IsHome p places (fresh id are.0.0, are.0.1) (fresh-homes ids places are.1)
 
--- the first pass is of its mount
-pub first-of : (geometry : Layout) (cookie : ℕ) (sectors : List DeviceBlock) (files : List FileSpec) (m : MountView) (p : PassView) → Started geometry cookie sectors files m p → IsPassOf m p
-first-of geometry cookie sectors files m p s = record {
-  stripes = ap (map (λ (t : SeatView Entry). t.cell)) s.stripe_seats ∙ map-map (λ (t : SeatView Entry). t.cell) is_first_at m.stripes;
-  sizes = ap (map (λ (t : SizeSeat). t.seat.cell)) s.size_seats ∙ map-map (λ (t : SizeSeat). t.seat.cell) first_size_seat m.sizes;
-  locks = (fresh-length m.locks p.locks s.lock_seats, λ f id seat at there. fresh-home m.locks p.locks f id seat s.lock_seats at there);
+-- a pass with the first seats at a mount's cells and locks is of that mount
+pub firsts-of : (m : MountView) (p : PassView) → p.stripes ≡ map is_first_at m.stripes → p.sizes ≡ map first_size_seat m.sizes → AreFresh m.locks p.locks → IsPassOf m p
+firsts-of m p stripes sizes locks = record {
+  stripes = ap (map (λ (t : SeatView Entry). t.cell)) stripes ∙ map-map (λ (t : SeatView Entry). t.cell) is_first_at m.stripes;
+  sizes = ap (map (λ (t : SizeSeat). t.seat.cell)) sizes ∙ map-map (λ (t : SizeSeat). t.seat.cell) first_size_seat m.sizes;
+  locks = (fresh-length m.locks p.locks locks, λ f id seat at there. fresh-home m.locks p.locks f id seat locks at there);
 }
