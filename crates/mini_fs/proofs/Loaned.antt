@@ -1,7 +1,11 @@
 -- What a loan leaves on a ticket, and when what was lent may come back on it.
-use Rattle.std.proofs.Common.{◌≡◌, ℕ, ◌<◌, ◌≤◌, List, length, refl, sym, ap, ◌∙◌, subst}
-use Rattle.std.specs.Prelude.{◌/◌, Option, Some, Result, Ok, Err, slice_get, nat_lt, IfOk}
+use Rattle.std.proofs.Common.{◌≡◌, ℕ, ◌+◌, ◌-◌, ◌<◌, ◌≤◌, List, [], ◌∷◌, length, map, drop, refl, sym, ap, ◌∙◌, subst, arith, length-drop}
+use Rattle.std.specs.Prelude.{◌/◌, Bool, true, false, if◌then◌else◌, Option, Some, Result, Ok, Err, slice_get, nat_lt, IfOk}
+use Rattle.std.proofs.lemmas.Bool.{false≢true}
+use Rattle.iob_base.proofs.PartLemmas.{pages_of-bare}
 use Rattle.iob_base.specs.Layout.{Layout}
+use Rattle.iob_base.specs.Parting.{pages_of}
+use Rattle.iob_base.specs.declared.sector.Page.{Page}
 use Rattle.iob_base.specs.declared.part.Part.{Part}
 use Rattle.iob_base.specs.declared.stamp.FileId.{FileId}
 use Rattle.iob_base.specs.declared.stamp.Op.{Op}
@@ -14,19 +18,27 @@ use Rattle.bio_pages.specs.declared.bio.Bio.{Bio}
 use Rattle.turn_cell.specs.Views.{CellView}
 use Rattle.range_core.specs.ClaimsView.{ClaimsView}
 use Rattle.range_core.specs.DirectBacks.{ReadyToReturn}
+use Rattle.range_core.specs.LendDirects.{ReadyToLend, TurnedToLend, direct_loan, goes_out}
 use Rattle.range_core.specs.LendParts.{TurnedToLendPart}
-use Rattle.range_core.specs.Lends.{lent_of}
-use Rattle.range_core.specs.RangeView.{LiesAt, RangeView}
+use Rattle.range_core.specs.Lends.{lent_of, parts_of}
+use Rattle.range_core.specs.Pages.{zeroed_page}
+use Rattle.range_core.specs.RangeView.{LiesAt, RangeView, cells_from}
 use Rattle.range_core.specs.Returning.{MayComeBack}
+use Rattle.range_core.specs.declared.cell.Cell.{Cell}
+use Rattle.range_core.specs.declared.direct_answer.Direct.{Direct as Answer}
+use Rattle.range_core.specs.declared.direct_answer.Direct.TheVariants.{Lent as LentOut, Zeros}
+use Rattle.range_core.specs.declared.direct_answer.DirectRefused.{DirectRefused}
 use Rattle.range_core.specs.declared.direct_answer.PartRefused.{PartRefused}
 use Rattle.range_core.specs.declared.lending.Held.{Held}
 use Rattle.range_core.specs.declared.lending.Lender.{Lender}
 use Rattle.range_core.specs.declared.lending.Lender.TheVariants.{Reading, Writeback, Direct, Part as InPart}
 use Rattle.range_core.specs.declared.lending.Lent.{Lent}
+use Rattle.range_core.specs.declared.range.lend_direct.LendDirectRun.{LendDirectRun}
 use Rattle.range_core.specs.declared.range.lend_part.LendPartRun.{LendPartRun}
+use Rattle.range_core.specs.declared.sample.Sample.{Sample}
 use Rattle.mount_parts.specs.MountView.{MountView, IsLaidOut, stripe_at}
 use Rattle.mini_fs.proofs.Layouts.{stripe-sizes}
-use Rattle.mini_fs.specs.Loans.{CarriesLoan, IsLoaned, LieInStripe, direct_back_run}
+use Rattle.mini_fs.specs.Loans.{AnswersPages, CarriesLoan, IsLoaned, LieInStripe, direct_back_run, lend_direct_run}
 use Rattle.mini_fs.specs.PassView.{PassView}
 use Rattle.mini_fs.specs.Tickets.{TicketView, lent_claims}
 use Rattle.mini_fs.specs.Turns.{ReadyAt, TurnsAt}
@@ -59,6 +71,47 @@ part-held m file p q stripe held t c d change later laid home at (Ok lent) turn 
       lies = lies-at m t.stripe turn.cell lent.block (length lent.parts) here did.lies;
       ready = did.ready;
     }
+
+-- whether an answer lends
+abbrev is_lent : Answer → Bool
+is_lent (LentOut lent) = true
+is_lent (Zeros pages) = false
+
+-- what an answer that lends lent, and the zeros of one that does not
+lent-is : (P : Lent → Type 0) (goes : Bool) (lent loan : Lent) (zeros : List Part) → LentOut lent ≡ (if goes then LentOut loan else Zeros zeros) → P loan → P lent
+lent-is P true lent loan zeros is has = let same : lent ≡ loan = cc in subst P (sym same) has
+lent-is P false lent loan zeros is has = absurd (false≢true (sym (ap is_lent is)))
+
+zeros-are : (goes : Bool) (pages zeros : List Part) (loan : Lent) → Zeros pages ≡ (if goes then LentOut loan else Zeros zeros) → pages ≡ zeros
+zeros-are true pages zeros loan is = absurd (false≢true (ap is_lent is))
+zeros-are false pages zeros loan is = cc
+
+-- blocks go out with the pages that are for them
+parts-pages : (cells : List Cell) (pages : List Page) → length pages ≤ length cells → pages_of (parts_of cells pages) ≡ pages
+parts-pages cells [] h = refl
+parts-pages [] (page ∷ pages) h = absurd (omega arith)
+parts-pages (c ∷ cells) (page ∷ pages) h = ap (λ l. page ∷ l) (parts-pages cells pages (omega arith))
+
+-- the pages that were handed in go out, or are answered as zeros
+pub direct-pages : (m : MountView) (p q : PassView) (stripe : ℕ) (k claims left c d : ClaimsView) (by : Tag) (seen : Sample) (op : Op) (block : ℕ) (pages : List Part) (later : LendDirectRun)
+    → ReadyAt (λ opening history claims. ReadyToLend (lend_direct_run by seen op block (Some pages)) opening history claims) m p stripe k → (out : Result Answer DirectRefused)
+    → TurnsAt (λ opening history value next entry. TurnedToLend (lend_direct_run by seen op block (Some pages)) later opening history value next claims left out entry) m stripe c d p q
+    → IfOk out (λ answer. AnswersPages pages answer)
+direct-pages m p q stripe k claims left c d by seen op block pages later ready (Err refused) turn = tt
+direct-pages m p q stripe k claims left c d by seen op block pages later ready (Ok (LentOut lent)) turn =
+    let r = ready turn.cell turn.before turn.stand in
+    let same : pages ≡ r.pages = (let e : Some pages ≡ Some r.pages = r.pages_are in cc) in
+    let run = turn.turned.stood.holds.same_run in
+    let value = turn.turned.value in
+    let lies : LiesAt turn.cell.opening block (length (pages_of pages)) = subst (λ ps. LiesAt turn.cell.opening block (length (pages_of ps))) (sym same) r.lies in
+    let first = run.first in
+    let blocks = run.blocks in
+    let low = lies.low in
+    let high = lies.high in
+    let room : length (pages_of pages) ≤ length (drop (block - value.first) value.cells) = omega (arith, length-drop (block - value.first) value.cells) in
+    lent-is (λ l. pages_of l.parts ≡ pages_of pages) (goes_out op seen.extent.kind) lent (direct_loan value block (pages_of pages)) _ turn.turned.done.did.answer_is (parts-pages (cells_from value block) (pages_of pages) room)
+direct-pages m p q stripe k claims left c d by seen op block pages later ready (Ok (Zeros zeros)) turn =
+    ap pages_of (zeros-are (goes_out op seen.extent.kind) zeros _ (direct_loan turn.turned.value block (pages_of pages)) turn.turned.done.did.answer_is) ∙ pages_of-bare (map zeroed_page (pages_of pages))
 
 -- What was lent on a ticket may come back on it, after the transfer that `done` tells
 returned : (m : MountView) (file : FileId) (t : TicketView) (lender : Lender) (op : Op) (done : Done) (lent : Lent) (parts : List Part) → IsLoaned m file t lent lender
@@ -96,7 +149,7 @@ module _ (m : MountView) (file : FileId) (number : ℕ) (b r : Bio TicketView) (
   returned-ready lender op carries p =
       let parts : r.parts ≡ parts_after op done.landed b.parts = run.parts ∙ ap (λ o. parts_after o done.landed b.parts) carries.way in
       subst (λ (x : Bio TicketView). ReadyAt (λ opening seen claims. MayComeBack opening claims lender op (lent_of number x.block r.parts) done) m p x.ticket.stripe (lent_claims p x.ticket.held)) (sym run.bio)
-        (returned m file b.ticket lender op done (lent_of number b.block b.parts) r.parts carries.loan parts run.landed run.failed p)
+      (returned m file b.ticket lender op done (lent_of number b.block b.parts) r.parts carries.loan parts run.landed run.failed p)
 
   pub returned-ready-read : CarriesLoan m file Reading Read number b → (p : PassView)
       → ReadyAt (λ opening seen claims. MayComeBack opening claims Reading Read (lent_of number r.block r.parts) done) m p r.ticket.stripe (lent_claims p r.ticket.held)

@@ -1,6 +1,7 @@
 -- What a ticket carries, and what the turns did that lend on one and take back from one.
-use Rattle.std.specs.Prelude.{◌≡◌, ℕ, Option, Some, None, Result, Ok, Err, List, length, slice_get, MatchResult}
+use Rattle.std.specs.Prelude.{◌≡◌, ℕ, Option, Some, None, Result, Ok, Err, List, length, map, slice_get, MatchResult}
 use Rattle.bio_pages.specs.declared.bio.Bio.{Bio}
+use Rattle.iob_base.specs.Parting.{pages_of}
 use Rattle.iob_base.specs.declared.part.Part.{Part}
 use Rattle.iob_base.specs.declared.stamp.FileId.{FileId}
 use Rattle.iob_base.specs.declared.stamp.Op.{Op}
@@ -15,6 +16,7 @@ use Rattle.range_core.specs.LendParts.{TurnedToLendPart}
 use Rattle.range_core.specs.LendReads.{Filled, LentCold, RefusedCold}
 use Rattle.range_core.specs.LendWritebacks.{EndedWriteback, LentDirty, RefusedDirty}
 use Rattle.range_core.specs.Lends.{lent_of}
+use Rattle.range_core.specs.Pages.{zeroed_page}
 use Rattle.range_core.specs.RangeView.{LiesAt, RangeView}
 use Rattle.range_core.specs.declared.direct_answer.Direct.{Direct as Answer}
 use Rattle.range_core.specs.declared.direct_answer.Direct.TheVariants.{Lent as LentOut, Zeros}
@@ -57,6 +59,11 @@ abbrev pub CarriesAnswer : MountView → FileId → TicketView → Tag → Op �
 CarriesAnswer m file t by op (LentOut lent) = IsLoaned m file t lent (Direct by op)
 CarriesAnswer m file t by op (Zeros pages) = t.held ≡ None
 
+-- the pages that were handed in go out with what was lent, and where zeros were answered they are these pages, of as many zeros
+abbrev pub AnswersPages : List Part → Answer → Type 0
+AnswersPages pages (LentOut lent) = pages_of lent.parts ≡ pages_of pages
+AnswersPages pages (Zeros zeros) = pages_of zeros ≡ map zeroed_page (pages_of pages)
+
 -- the changes of these turns: what each is given, with the list or the loan that goes in, and without it when the turn is over
 abbrev pub lend_read_run : ℕ → ℕ → Option (List Part) → LendReadRun
 lend_read_run block blocks parts = record { block = block; blocks = blocks; parts = parts }
@@ -83,15 +90,15 @@ direct_back_run by op back done = record { by = by; op = op; back = back; done =
 abbrev pub LendsRead : ℕ → ℕ → List Part → Result Lent LendRefused → RangeView → RangeView → ClaimsView → RangeView → ClaimsView → Entry → Type 0
 LendsRead block blocks parts answer opening before claims after left entry =
     MatchResult answer
-      (λ lent. LentCold opening (lend_read_run block blocks (Some parts)) (lend_read_run block blocks None) before after claims left lent entry)
-      (λ refused. RefusedCold (lend_read_run block blocks (Some parts)) (lend_read_run block blocks None) before after claims left refused entry)
+    (λ lent. LentCold opening (lend_read_run block blocks (Some parts)) (lend_read_run block blocks None) before after claims left lent entry)
+    (λ refused. RefusedCold (lend_read_run block blocks (Some parts)) (lend_read_run block blocks None) before after claims left refused entry)
 
 -- a turn lent dirty blocks for a write, or refused to
 abbrev pub LendsWriteback : ℕ → ℕ → List Part → Result Lent LendRefused → RangeView → RangeView → ClaimsView → RangeView → ClaimsView → Entry → Type 0
 LendsWriteback block blocks parts answer opening before claims after left entry =
     MatchResult answer
-      (λ lent. LentDirty opening (lend_writeback_run block blocks (Some parts)) (lend_writeback_run block blocks None) before after claims left lent entry)
-      (λ refused. RefusedDirty (lend_writeback_run block blocks (Some parts)) (lend_writeback_run block blocks None) before after claims left refused entry)
+    (λ lent. LentDirty opening (lend_writeback_run block blocks (Some parts)) (lend_writeback_run block blocks None) before after claims left lent entry)
+    (λ refused. RefusedDirty (lend_writeback_run block blocks (Some parts)) (lend_writeback_run block blocks None) before after claims left refused entry)
 
 -- a turn lent blocks for a caller's own pages, or answered zeros, or refused to
 abbrev pub LendsDirect : Tag → Sample → Op → ℕ → List Part → Result Answer DirectRefused → RangeView → List Entry → RangeView → ClaimsView → RangeView → ClaimsView → Entry → Type 0

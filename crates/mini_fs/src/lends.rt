@@ -1,6 +1,6 @@
 //! Calls that lend blocks on a ticket of a pass.
-ghost use Rattle.std.specs.Prelude.{◌≡◌, ◌/◌, [], None, Some, IfOk, OnErr};
-ghost use Rattle.mini_fs.specs.Loans.{CarriesAnswer, IsLoaned, LendsDirect, LendsPart, LendsRead, LendsWriteback, lend_direct_run, lend_part_run};
+ghost use Rattle.std.specs.Prelude.{◌≡◌, ◌/◌, [], None, Some, IfErr, IfOk, OnErr};
+ghost use Rattle.mini_fs.specs.Loans.{AnswersPages, CarriesAnswer, IsLoaned, LendsDirect, LendsPart, LendsRead, LendsWriteback, lend_direct_run, lend_part_run};
 ghost use Rattle.mini_fs.specs.PassView.{IsPassOf};
 ghost use Rattle.mini_fs.specs.Tickets.{IsTicketOf, KeepsTickets, lent_claims};
 ghost use Rattle.mini_fs.specs.Turns.{ReadyAt, TurnsAt};
@@ -52,6 +52,7 @@ impl Mount {
         ensures stripe { result.0.stripe ≡ ticket.stripe }
         ensures held { IfOk result.1 (λ lent. IsLoaned self.now file result.0 lent Reading) }
         ensures refused { OnErr result.1 (result.0.held ≡ None) }
+        ensures list { IfErr result.1 (λ refused. refused.parts ≡ []) }
         ensures tickets { KeepsTickets pass.old pass.new }
     {
         let mut change = LendReadRun {
@@ -94,6 +95,7 @@ impl Mount {
         ensures stripe { result.0.stripe ≡ ticket.stripe }
         ensures held { IfOk result.1 (λ lent. IsLoaned self.now file result.0 lent Writeback) }
         ensures refused { OnErr result.1 (result.0.held ≡ None) }
+        ensures list { IfErr result.1 (λ refused. refused.parts ≡ []) }
         ensures tickets { KeepsTickets pass.old pass.new }
     {
         let mut change = LendWritebackRun {
@@ -136,6 +138,8 @@ impl Mount {
         ensures stripe { result.0.stripe ≡ ticket.stripe }
         ensures held { IfOk result.1 (λ answer. CarriesAnswer self.now file result.0 by op answer) }
         ensures refused { OnErr result.1 (result.0.held ≡ None) }
+        ensures pages { IfOk result.1 (λ answer. AnswersPages pages answer) }
+        ensures pages_back { IfErr result.1 (λ refused. refused.pages ≡ pages) }
         ensures tickets { KeepsTickets pass.old pass.new }
     {
         let mut change = LendDirectRun {
@@ -179,6 +183,7 @@ impl Mount {
         ensures stripe { result.0.stripe ≡ ticket.stripe }
         ensures held { IfOk result.1 (λ lent. IsLoaned self.now file result.0 lent (Part by from to)) }
         ensures refused { OnErr result.1 (result.0.held ≡ None) }
+        ensures page_back { IfErr result.1 (λ refused. refused.page ≡ page) }
         ensures tickets { KeepsTickets pass.old pass.new }
     {
         self.is_laid_out();

@@ -1,5 +1,6 @@
 //! Calls that take back what was lent on a ticket of a pass.
-ghost use Rattle.std.specs.Prelude.{◌≡◌, None, Some};
+ghost use Rattle.std.specs.Prelude.{◌≡◌, [], All, None, Some, map};
+ghost use Rattle.iob_base.specs.Parting.{IsBare, pages_of};
 ghost use Rattle.iob_base.specs.declared.stamp.Op.TheVariants.{Read, Write};
 ghost use Rattle.mini_fs.specs.Loans.{EndsDirect, EndsWriteback, FillsBack, direct_back_run};
 ghost use Rattle.mini_fs.specs.PassView.{IsPassOf};
@@ -7,6 +8,7 @@ ghost use Rattle.mini_fs.specs.Tickets.{IsTicketOf, KeepsTickets, lent_claims};
 ghost use Rattle.mini_fs.specs.Turns.{ReadyAt, TurnsAt};
 ghost use Rattle.mount_parts.specs.MountView.{stripe_at};
 ghost use Rattle.range_core.specs.DirectBacks.{ReadyToReturn};
+ghost use Rattle.range_core.specs.LendWritebacks.{written_count};
 ghost use Rattle.range_core.specs.Returning.{MayComeBack};
 ghost use Rattle.range_core.specs.declared.lending.Lender.TheVariants.{Reading, Writeback};
 
@@ -15,7 +17,7 @@ use crate::pass::Pass;
 use crate::ticket::Ticket;
 use fault_device::Done;
 use iob_base::{FileId, Op, Parts, Tag};
-use range_core::{DirectBackRun, FillBackRun, Lent, WrittenBackRun, Written};
+use range_core::{DirectBackRun, FillBackRun, Lent, Written, WrittenBackRun};
 use std::sync::Wait;
 
 impl Mount {
@@ -40,6 +42,7 @@ impl Mount {
         ensures ticket { IsTicketOf pass.new result.0 }
         ensures stripe { result.0.stripe ≡ ticket.stripe }
         ensures held { result.0.held ≡ None }
+        ensures emptied { result.1 ≡ [] }
         ensures tickets { KeepsTickets pass.old pass.new }
     {
         let mut change = FillBackRun {
@@ -71,6 +74,8 @@ impl Mount {
         ensures ticket { IsTicketOf pass.new result.0 }
         ensures stripe { result.0.stripe ≡ ticket.stripe }
         ensures held { result.0.held ≡ None }
+        ensures count { result.1.blocks ≡ written_count back done }
+        ensures emptied { result.1.parts ≡ [] }
         ensures tickets { KeepsTickets pass.old pass.new }
     {
         let mut change = WrittenBackRun {
@@ -104,6 +109,8 @@ impl Mount {
         ensures ticket { IsTicketOf pass.new result.0 }
         ensures stripe { result.0.stripe ≡ ticket.stripe }
         ensures held { result.0.held ≡ None }
+        ensures pages { pages_of result.1 ≡ map (λ p. p.page) back.parts }
+        ensures bare { All IsBare result.1 }
         ensures tickets { KeepsTickets pass.old pass.new }
     {
         let mut change = DirectBackRun {
