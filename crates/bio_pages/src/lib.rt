@@ -23,7 +23,7 @@ mod shelf_seat;
 
 pub use bio::{Bio, run_bio};
 pub use errand::Errand;
-pub use list::run_list;
+pub use list::{run_here, run_list};
 pub use queue::{BioQueue, QueuePass};
 pub use running::{await_last, send_out, serve};
 pub use sent::Sent;

@@ -91,8 +91,8 @@ fn gather_each<T: Drop>(
     }
 }
 
-// Runs so many bios of the front of the list on this lane, and puts them behind the others.
-fn run_here<T: Drop>(
+/// Runs so many bios of the front of the list on this lane, and puts them behind the others. It takes no memory.
+pub fn run_here<T: Drop>(
     lane: &mut Lane,
     then: u64,
     left: usize,

@@ -1,5 +1,5 @@
 -- A list is changed place by place from the front.
-use Rattle.std.proofs.Common.{◌≡◌, ℕ, zero, suc, ◌+◌, ◌<◌, get_or, arith, List, [], ◌∷◌, ◌++◌, length, map, set, take, Some, refl, sym, ap, ◌∙◌, drop}
+use Rattle.std.proofs.Common.{◌≡◌, ℕ, zero, suc, ◌+◌, ◌<◌, get_or, arith, List, [], ◌∷◌, ◌++◌, length, map, set, take, Some, refl, sym, ap, ◌∙◌}
 use Rattle.std.specs.Prelude.{slice_get}
 use Rattle.std.proofs.lemmas.List.{map-append, map-set}
 use Rattle.mount_parts.proofs.Places.{map-there}

@@ -65,6 +65,7 @@ of-joined m p from is = record {
   stripes = paired-kept joined (λ (s : SeatView Entry). s.cell) (λ x y. refl) p.stripes from.stripes ∙ is.stripes;
   sizes = paired-kept joined_size (λ (s : SizeSeat). s.seat.cell) (λ x y. refl) p.sizes from.sizes ∙ is.sizes;
   locks = is.locks;
+  queue = is.queue;
 }
 
 -- its tickets stay

@@ -11,3 +11,7 @@ pub mod JoinPasses
 pub mod ActLemmas
 pub mod Starts
 pub mod Loaned
+pub mod ShelfLists
+pub mod CrossingRules
+pub mod BioCrossing
+pub mod MountCrossing

@@ -10,7 +10,8 @@ use Rattle.range_core.specs.RangeTruth.{RangeTruth}
 use Rattle.range_core.specs.RangeView.{RangeView}
 use Rattle.range_core.specs.declared.entry.Entry.{Entry}
 use Rattle.range_core.specs.declared.lending.Held.{Held}
-use Rattle.mini_fs.specs.Tickets.{IsLoanSeat, IsTicketOf, TicketView, ticket_claims, with_held, with_share}
+use Rattle.mini_fs.specs.TicketView.{TicketView}
+use Rattle.mini_fs.specs.Tickets.{IsLoanSeat, IsTicketOf, ticket_claims, with_held, with_share}
 use Rattle.mini_fs.specs.PassView.{PassView}
 
 longer-whole : (xs ys : List Entry) → Begins ys xs → longer xs ys ≡ xs

@@ -13,6 +13,7 @@ use Rattle.iob_base.specs.declared.stamp.FileId.{FileId}
 use Rattle.range_core.specs.declared.entry.Entry.{Entry}
 use Rattle.mini_fs.specs.Holds.{with_lock}
 use Rattle.mount_parts.specs.MountView.{MountView, HasFile, IsLaidOut}
+use Rattle.mini_fs.specs.BioSeats.{BioSeatsView}
 use Rattle.mini_fs.specs.declared.begun.Begun.{Begun}
 use Rattle.mini_fs.specs.PassView.{PassView, SizeSeat, IsPassOf, pass_view}
 use Rattle.mini_fs.specs.Tickets.{KeepsTickets}
@@ -22,7 +23,7 @@ use Rattle.mount_parts.proofs.Places.{map-kept, map-there, same-length, seen-ali
 
 module _ (p : PassView) (stripe : ℕ) (before after : SeatView Entry) (here : slice_get p.stripes stripe ≡ Some before) (cell : after.cell ≡ before.cell) where
   pub of-with_seat : (m : MountView) → IsPassOf m p → IsPassOf m (with_seat p stripe after)
-  of-with_seat m is = record { stripes = map-kept (λ (s : SeatView Entry). s.cell) p.stripes stripe before after here cell ∙ is.stripes; sizes = is.sizes; locks = is.locks }
+  of-with_seat m is = record { stripes = map-kept (λ (s : SeatView Entry). s.cell) p.stripes stripe before after here cell ∙ is.stripes; sizes = is.sizes; locks = is.locks; queue = is.queue }
 
   -- a seat that has seen more keeps the tickets
   pub tickets-with_seat : Begins before.seen after.seen → KeepsTickets p (with_seat p stripe after)
@@ -38,7 +39,7 @@ module _ (p : PassView) (stripe : ℕ) (before after : SeatView Entry) (here : s
 
 -- the pass with a seat of the mount's lock at home
 pub of-lock_home : (m : MountView) (p : PassView) (file : FileId) (seat : LockView) → IsPassOf m p → slice_get m.locks file.0 ≡ Some seat.lock → IsPassOf m (with_lock p file (Some seat))
-of-lock_home m p file seat is lock = record { stripes = is.stripes; sizes = is.sizes; locks = (set-length p.locks file.0 (Some seat) ∙ is.locks.0, home) }
+of-lock_home m p file seat is lock = record { stripes = is.stripes; sizes = is.sizes; locks = (set-length p.locks file.0 (Some seat) ∙ is.locks.0, home); queue = is.queue }
   where
     home : (f : ℕ) (id : TableId) (other : LockView) → slice_get m.locks f ≡ Some id → slice_get (set p.locks file.0 (Some seat)) f ≡ Some (Some other) → other.lock ≡ id
     home f id other at there = elim (cases_eq f file.0) [
@@ -62,10 +63,10 @@ pub lock-file : (m : MountView) (file : FileId) (id : TableId) → IsLaidOut m �
 lock-file m file id laid at = let w = within m.locks file.0 id at in let e = laid.locks in omega arith
 
 -- A pass is seen by its seats, of which the one at this stripe is `x`
-module _ {S : Type 0} (view : S → SeatView Entry) (seats : List S) (sizes : List SizeSeat) (locks : List (Option LockView)) (caller spare last : ℕ) (begun : Option Begun) (p : PassView) (is : pass_view (map view seats) sizes locks caller spare last begun ≡ p) (stripe : ℕ) where
+module _ {S : Type 0} (view : S → SeatView Entry) (seats : List S) (sizes : List SizeSeat) (locks : List (Option LockView)) (caller spare last : ℕ) (begun : Option Begun) (bios : BioSeatsView) (p : PassView) (is : pass_view (map view seats) sizes locks caller spare last begun bios ≡ p) (stripe : ℕ) where
   -- with another seat there
-  pub seat-set : (y : S) → pass_view (map view (set seats stripe y)) sizes locks caller spare last begun ≡ with_seat p stripe (view y)
-  seat-set y = ap (λ l. pass_view l sizes locks caller spare last begun) (map-set view seats stripe y) ∙ ap (λ q. with_seat q stripe (view y)) is
+  pub seat-set : (y : S) → pass_view (map view (set seats stripe y)) sizes locks caller spare last begun bios ≡ with_seat p stripe (view y)
+  seat-set y = ap (λ l. pass_view l sizes locks caller spare last begun bios) (map-set view seats stripe y) ∙ ap (λ q. with_seat q stripe (view y)) is
 
   module _ (m : MountView) (of : IsPassOf m p) (x : S) (cell : CellView RangeView) (at : x ≡ get_or seats stripe x) (here : slice_get m.stripes stripe ≡ Some cell) where
     pub seat-there : slice_get seats stripe ≡ Some x

@@ -11,6 +11,7 @@ use Rattle.size_core.specs.SizeTruth.{SizeTruth}
 use Rattle.size_core.specs.SizesView.{SizesView}
 use Rattle.size_core.specs.declared.entry.SizeEntry.{SizeEntry}
 use Rattle.mount_parts.specs.MountView.{MountView}
+use Rattle.mini_fs.specs.BioSeats.{BioSeatsView}
 use Rattle.mini_fs.specs.declared.begun.Begun.{Begun}
 use Rattle.mini_fs.specs.PassView.{PassView, SizeSeat, IsPassOf, IsSizeSeat, pass_view}
 use Rattle.mini_fs.specs.SizeTurns.{StandAtSize, with_size, without_rooms}
@@ -18,7 +19,7 @@ use Rattle.mini_fs.specs.Tickets.{KeepsTickets}
 use Rattle.mount_parts.proofs.Places.{map-kept, map-there, same-length, seen-alike, within}
 
 pub of-with_size : (m : MountView) (p : PassView) (at : ℕ) (before after : SizeSeat) → IsPassOf m p → slice_get p.sizes at ≡ Some before → after.seat.cell ≡ before.seat.cell → IsPassOf m (with_size p at after)
-of-with_size m p at before after is here cell = record { stripes = is.stripes; sizes = map-kept (λ (s : SizeSeat). s.seat.cell) p.sizes at before after here cell ∙ is.sizes; locks = is.locks }
+of-with_size m p at before after is here cell = record { stripes = is.stripes; sizes = map-kept (λ (s : SizeSeat). s.seat.cell) p.sizes at before after here cell ∙ is.sizes; locks = is.locks; queue = is.queue }
 
 pub tickets-with_size : (p : PassView) (at : ℕ) (after : SizeSeat) → KeepsTickets p (with_size p at after)
 tickets-with_size p at after t is = record { caller = is.caller; seat = is.seat; here = is.here; loan = is.loan }
@@ -27,10 +28,10 @@ tickets-with_size p at after t is = record { caller = is.caller; seat = is.seat;
 pub size-left : (caller spare : ℕ) (claims left : ClaimsView) → IsSizeSeat caller spare claims → without_rooms left ≡ without_rooms claims → IsSizeSeat caller spare left
 size-left caller spare claims left is same = ap (λ (k : ClaimsView). record k { rooms = left.rooms }) same ∙ ap (λ (k : ClaimsView). record k { rooms = left.rooms }) is
 
-module _ {S : Type 0} (view : S → SizeSeat) (stripes : List (SeatView Entry)) (seats : List S) (locks : List (Option LockView)) (caller spare last : ℕ) (begun : Option Begun) (p : PassView) (is : pass_view stripes (map view seats) locks caller spare last begun ≡ p) (at : ℕ) where
+module _ {S : Type 0} (view : S → SizeSeat) (stripes : List (SeatView Entry)) (seats : List S) (locks : List (Option LockView)) (caller spare last : ℕ) (begun : Option Begun) (bios : BioSeatsView) (p : PassView) (is : pass_view stripes (map view seats) locks caller spare last begun bios ≡ p) (at : ℕ) where
   -- with another seat there
-  pub size-set : (y : S) → pass_view stripes (map view (set seats at y)) locks caller spare last begun ≡ with_size p at (view y)
-  size-set y = ap (λ l. pass_view stripes l locks caller spare last begun) (map-set view seats at y) ∙ ap (λ q. with_size q at (view y)) is
+  pub size-set : (y : S) → pass_view stripes (map view (set seats at y)) locks caller spare last begun bios ≡ with_size p at (view y)
+  size-set y = ap (λ l. pass_view stripes l locks caller spare last begun bios) (map-set view seats at y) ∙ ap (λ q. with_size q at (view y)) is
 
   module _ (m : MountView) (of : IsPassOf m p) (x : S) (cell : CellView SizesView) (read : x ≡ get_or seats at x) (here : slice_get m.sizes at ≡ Some cell) where
     pub size-there : slice_get seats at ≡ Some x

@@ -8,6 +8,7 @@ use Rattle.inode_lock.specs.View.{LockView, fresh}
 use Rattle.turn_cell.specs.Views.{SeatView}
 use Rattle.range_core.specs.declared.entry.Entry.{Entry}
 use Rattle.mount_parts.specs.MountView.{MountView}
+use Rattle.mini_fs.specs.BioSeats.{BioSeatsView}
 use Rattle.mini_fs.specs.PassView.{IsPassOf, PassView, SizeSeat}
 use Rattle.mount_parts.specs.Locks.{AreFresh}
 use Rattle.mini_fs.specs.Splits.{SplitOff, given_size, given_stripe, kept_lock, kept_pass, kept_size, kept_stripe}
@@ -27,6 +28,7 @@ of-kept m p is = record {
   stripes = map-map (λ (s : SeatView Entry). s.cell) kept_stripe p.stripes ∙ is.stripes;
   sizes = map-map (λ (s : SizeSeat). s.seat.cell) kept_size p.sizes ∙ is.sizes;
   locks = (length-map p.locks kept_lock ∙ is.locks.0, λ f id seat at there. kept-home m.locks p.locks f id seat (λ other here. is.locks.1 f id other at here) there);
+  queue = is.queue;
 }
 
 -- its tickets stay
@@ -56,4 +58,5 @@ of-new m p q new is split = record {
   stripes = ap (map (λ (s : SeatView Entry). s.cell)) split.stripes ∙ map-map (λ (s : SeatView Entry). s.cell) given_stripe p.stripes ∙ is.stripes;
   sizes = ap (map (λ (s : SizeSeat). s.seat.cell)) split.sizes ∙ map-map (λ (s : SizeSeat). s.seat.cell) given_size p.sizes ∙ is.sizes;
   locks = (fresh-length m.locks new.locks split.locks, λ f id seat at there. fresh-home m.locks new.locks f id seat split.locks at there);
+  queue = ap (λ (b : BioSeatsView). b.queue.queue) split.bios ∙ is.queue;
 }

@@ -12,6 +12,9 @@ use Rattle.size_core.specs.declared.entry.SizeEntry.{SizeEntry}
 use Rattle.mount_parts.specs.Locks.{AreFresh}
 use Rattle.mount_parts.specs.MountView.{MountView}
 use Rattle.mount_parts.specs.Pieces.{is_first_at}
+use Rattle.bio_pages.specs.Queue as passing
+use Rattle.mini_fs.specs.BioSeats.{AreFirst}
+use Rattle.mini_fs.specs.TicketView.{TicketView}
 use Rattle.mini_fs.specs.PassView.{IsPassOf, IsSizeSeat, PassView, SizeSeat, size_claims, size_seat}
 use Rattle.mini_fs.specs.Splits.{IsHome}
 use Rattle.mini_fs.specs.Starts.{first_size_seat}
@@ -47,9 +50,10 @@ fresh-homes (id ∷ ids) [] are = absurd are
 fresh-homes (id ∷ ids) (p ∷ places) are = All-cons IsHome p places (fresh id are.0.0, are.0.1) (fresh-homes ids places are.1)
 
 -- a pass with the first seats at a mount's cells and locks is of that mount
-pub firsts-of : (m : MountView) (p : PassView) → p.stripes ≡ map is_first_at m.stripes → p.sizes ≡ map first_size_seat m.sizes → AreFresh m.locks p.locks → IsPassOf m p
-firsts-of m p stripes sizes locks = record {
+pub firsts-of : (m : MountView) (p : PassView) → p.stripes ≡ map is_first_at m.stripes → p.sizes ≡ map first_size_seat m.sizes → AreFresh m.locks p.locks → AreFirst m.queue.queue p.bios → IsPassOf m p
+firsts-of m p stripes sizes locks bios = record {
   stripes = ap (map (λ (t : SeatView Entry). t.cell)) stripes ∙ map-map (λ (t : SeatView Entry). t.cell) is_first_at m.stripes;
   sizes = ap (map (λ (t : SizeSeat). t.seat.cell)) sizes ∙ map-map (λ (t : SizeSeat). t.seat.cell) first_size_seat m.sizes;
   locks = (fresh-length m.locks p.locks locks, λ f id seat at there. fresh-home m.locks p.locks f id seat locks at there);
+  queue = ap (λ (v : passing.PassView TicketView). v.queue) bios.passed;
 }

@@ -5,6 +5,7 @@ use Rattle.turn_cell.specs.Views.{SeatView, joined, longer}
 use Rattle.range_core.specs.ClaimsView.{MayMerge, merged_claims}
 use Rattle.range_core.specs.declared.entry.Entry.{Entry}
 use Rattle.size_core.specs.ClaimsView as size
+use Rattle.mini_fs.specs.BioSeats.{joined_bios}
 use Rattle.mini_fs.specs.PassView.{PassView, SizeSeat}
 use Rattle.mini_fs.specs.Places.{SizePlace, StripePlace}
 use Rattle.mini_fs.specs.Splits.{HoldsNothing}
@@ -51,9 +52,9 @@ pub record CanJoin (into from : PassView) : Type 0 where
   pub spare : (into.spare ≡ 0) ⊎ (from.spare ≡ 0)
   pub rooms : All (λ s. s.rooms ≡ 0) from.sizes
 
--- Both passes as one, which keeps the first one's caller number and lock seats
+-- Both passes as one, which keeps the first one's caller number, lock seats and pass at the queue
 abbrev pub joined_pass : PassView → PassView → PassView
-joined_pass into from = record into { stripes = paired joined into.stripes from.stripes; sizes = paired joined_size into.sizes from.sizes; spare = into.spare + from.spare; last = max into.last from.last }
+joined_pass into from = record into { stripes = paired joined into.stripes from.stripes; sizes = paired joined_size into.sizes from.sizes; spare = into.spare + from.spare; last = max into.last from.last; bios = joined_bios into.bios from.bios }
 
 -- What each of two passes has seen begins what both have seen together, at each stripe and at each size
 pub record JoinedHistories (into from : PassView) : Type 0 where

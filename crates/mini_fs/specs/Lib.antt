@@ -1,3 +1,5 @@
+pub mod TicketView
+pub mod BioSeats
 pub mod PassView
 pub mod Turns
 pub mod Tickets

@@ -1,11 +1,11 @@
 -- A pass is split for another caller, and two passes are joined.
-use Rattle.std.specs.Prelude.{◌≡◌, ℕ, ◌-◌, ◌<◌, Option, Some, None, List, [], ◌∷◌, All, map}
-use Rattle.atomic_table.specs.Seated.{TableId}
-use Rattle.inode_lock.specs.View.{LockView, fresh, split_off}
+use Rattle.std.specs.Prelude.{◌≡◌, ℕ, ◌-◌, ◌<◌, Option, Some, None, All, map}
+use Rattle.inode_lock.specs.View.{LockView, split_off}
 use Rattle.turn_cell.specs.Views.{SeatView, kept_part, new_part}
 use Rattle.range_core.specs.declared.entry.Entry.{Entry}
 use Rattle.mount_parts.specs.Locks.{AreFresh}
 use Rattle.mount_parts.specs.MountView.{MountView}
+use Rattle.mini_fs.specs.BioSeats.{given_bios, kept_bios}
 use Rattle.mini_fs.specs.PassView.{PassView, SizeSeat}
 
 -- the share at each cell that a new pass gets
@@ -47,9 +47,9 @@ pub record CanSplit (p : PassView) : Type 0 where
 
 -- What is left of a pass
 abbrev pub kept_pass : PassView → PassView
-kept_pass p = record p { stripes = map kept_stripe p.stripes; sizes = map kept_size p.sizes; locks = map kept_lock p.locks; spare = p.spare - 1 }
+kept_pass p = record p { stripes = map kept_stripe p.stripes; sizes = map kept_size p.sizes; locks = map kept_lock p.locks; spare = p.spare - 1; bios = kept_bios p.bios }
 
--- A new pass was split off: it has the lowest spare number and none to hand on, has seen what the first has and made nothing, has made no step at a lock, has the same last call, and began no mapping
+-- A new pass was split off: it has the lowest spare number and none to hand on, has seen what the first has and made nothing, has made no step at a lock, has the same last call, began no mapping, and has one of the shelves where there is another, and passed no bio
 pub record SplitOff (m : MountView) (p q new : PassView) : Type 0 where
   pub left : q ≡ kept_pass p
   pub stripes : new.stripes ≡ map given_stripe p.stripes
@@ -59,3 +59,4 @@ pub record SplitOff (m : MountView) (p q new : PassView) : Type 0 where
   pub spare : new.spare ≡ 0
   pub last : new.last ≡ p.last
   pub begun : new.begun ≡ None
+  pub bios : new.bios ≡ given_bios p.bios

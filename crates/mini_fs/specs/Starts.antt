@@ -11,6 +11,7 @@ use Rattle.mount_parts.specs.Locks.{AreFresh}
 use Rattle.mount_parts.specs.MountView.{MountView}
 use Rattle.mount_parts.specs.OpeningContents.{HaveContents}
 use Rattle.mount_parts.specs.Pieces.{LaidStripes, is_first_at}
+use Rattle.mini_fs.specs.BioSeats.{AreFirst}
 use Rattle.mini_fs.specs.PassView.{PassView, SizeSeat}
 use Rattle.mini_fs.specs.Splits.{HoldsNothing}
 
@@ -18,7 +19,7 @@ use Rattle.mini_fs.specs.Splits.{HoldsNothing}
 abbrev pub first_size_seat : CellView SizesView → SizeSeat
 first_size_seat c = record { seat = is_first_at c; rooms = 0 }
 
--- A mount began over these sectors with these files, and this is its first pass: it has the whole share at each cell, has seen and made nothing, holds no class, has the caller number 0 and all others to hand on, made no call and began no mapping
+-- A mount began over these sectors with these files, and this is its first pass: it has the whole share at each cell, has seen and made nothing, holds no class, has the caller number 0 and all others to hand on, made no call and began no mapping; it has all shelves of a new queue for 64 bios
 pub record Started (geometry : Layout) (cookie : ℕ) (sectors : List DeviceBlock) (files : List FileSpec) (m : MountView) (p : PassView) : Type 0 where
   pub geometry_is : m.geometry ≡ geometry
   pub files_are : m.files ≡ places_from 0 0 files
@@ -33,3 +34,5 @@ pub record Started (geometry : Layout) (cookie : ℕ) (sectors : List DeviceBloc
   pub spare : p.spare ≡ 4294967295
   pub last : p.last ≡ 0
   pub begun : p.begun ≡ None
+  pub capacity : m.queue.capacity ≡ 64
+  pub bios : AreFirst m.queue.queue p.bios

@@ -6,17 +6,8 @@ use Rattle.range_core.specs.ClaimsView.{ClaimsView}
 use Rattle.range_core.specs.declared.entry.Entry.{Entry}
 use Rattle.range_core.specs.declared.lending.Held.{Held}
 use Rattle.mini_fs.specs.PassView.{PassView, claims_of}
+use Rattle.mini_fs.specs.TicketView.{TicketView}
 use Rattle.mini_fs.specs.Turns.{with_seat}
-
--- the stripe whose seat it was split off, its own seat, the caller number, and the blocks lent
-pub record TicketView : Type 0 where
-  pub stripe : ℕ
-  pub seat : SeatView Entry
-  pub caller : ℕ
-  pub held : Option Held
-
-abbrev pub ticket_view : ℕ → SeatView Entry → ClaimsView → TicketView
-ticket_view stripe seat claims = record { stripe = stripe; seat = seat; caller = claims.caller; held = claims.held }
 
 -- what a ticket's seat claims
 abbrev pub ticket_claims : ℕ → Option Held → ClaimsView

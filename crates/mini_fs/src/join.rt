@@ -54,7 +54,7 @@ fn join_sizes(mount: &Mount, seats: &mut Vec<TurnSeat<Sizes>>, from: Vec<TurnSea
 
 impl Mount {
     /// Joins another pass into `into`, which keeps its caller number and its seats at the locks, and gets the shares and the
-    /// spare numbers of both and the greater of their last calls. Neither holds a class, and at most one has spare numbers.
+    /// spare numbers of both, the shelves of both up to the 32 that there are, and the greater of their last calls. Neither holds a class, and at most one has spare numbers.
     ///
     /// Afterwards `into` has seen at each cell the longer of what both had seen, of which each is a beginning.
     pub fn join_pass(&self, into: &mut Pass, from: Pass)
@@ -74,10 +74,12 @@ impl Mount {
             spare,
             last,
             begun: _,
+            bios,
         } = from;
         join_stripes(self, &mut into.stripes, stripes);
         join_sizes(self, &mut into.sizes, sizes);
         drop(locks);
+        into.bios.join(bios);
         into.spare += spare;
         let last = later(into.last, last);
         into.last = last;

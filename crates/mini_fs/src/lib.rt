@@ -10,6 +10,7 @@
 //! - `split`, `join`: how a pass is split for another caller, and how two passes are joined
 //! - `ticket`: the seat that carries a loan, and the turns that lend and take back
 //! - `lends`, `returns`: the events that lend on a ticket and take back from one
+//! - `shelves`, `run_all`: the shelves of a pass, and how it runs its bios by way of the mount's queue
 //! - `hold`, `locks`: a class of a file's lock, and how a pass takes and leaves it
 //! - `crossing`: a mount is shared by threads
 #![tactic(auto)]
@@ -22,8 +23,11 @@ mod join;
 mod lends;
 mod locks;
 mod mount;
+mod open_bios;
 mod pass;
 mod returns;
+mod run_all;
+mod shelves;
 mod size;
 mod split;
 mod start;

@@ -2,6 +2,8 @@
 ghost use Rattle.std.specs.Prelude.{◌≡◌, ◌<◌, ◌≤◌, ◌+◌, ◌/◌, Some, is_some, length, slice_get};
 ghost use Rattle.turn_cell.specs.Seats.{cell_view};
 
+use crate::ticket::Ticket;
+use bio_pages::BioQueue;
 use crossbeam_utils::CachePadded;
 use inode_lock::InodeLock;
 use iob_base::{FileId, Geometry, Mode, STRIPE, Sector};
@@ -34,6 +36,7 @@ pub struct Mount {
     pub(crate) pool: SpacePool,
     // The sectors of a device without files.
     pub(crate) idle: Vec<Sector>,
+    pub(crate) queue: BioQueue<Ticket>,
 }
 
 impl Model for Mount {
@@ -45,9 +48,9 @@ impl Model for Mount {
 
     ghost Value = { MountView };
 
-    ghost view = { λ m. mount_view m.geometry m.files.items (map (λ c. cell_view (padded_value c)) m.stripes.items) (map (λ c. cell_view (padded_value c)) m.sizes.items) m.locks.items (pool_cell m.pool) m.idle.items };
+    ghost view = { λ m. mount_view m.geometry m.files.items (map (λ c. cell_view (padded_value c)) m.stripes.items) (map (λ c. cell_view (padded_value c)) m.sizes.items) m.locks.items (pool_cell m.pool) m.idle.items m.queue };
 
-    ghost invariant = { λ m. IsLaidOut (mount_view m.geometry m.files.items (map (λ c. cell_view (padded_value c)) m.stripes.items) (map (λ c. cell_view (padded_value c)) m.sizes.items) m.locks.items (pool_cell m.pool) m.idle.items) };
+    ghost invariant = { λ m. IsLaidOut (mount_view m.geometry m.files.items (map (λ c. cell_view (padded_value c)) m.stripes.items) (map (λ c. cell_view (padded_value c)) m.sizes.items) m.locks.items (pool_cell m.pool) m.idle.items m.queue) };
 }
 
 impl Mount {

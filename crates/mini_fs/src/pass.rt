@@ -2,6 +2,7 @@
 ghost use Rattle.std.specs.Prelude.{◌≡◌};
 
 use crate::begun::Begun;
+use crate::shelves::BioSeats;
 use inode_lock::LockSeat;
 use range_core::Range;
 use size_core::Sizes;
@@ -27,6 +28,7 @@ pub struct Pass {
     pub(crate) last: u32,
     // The mapping that the pass began and has not ended.
     pub(crate) begun: Option<Begun>,
+    pub(crate) bios: BioSeats,
 }
 
 impl Model for Pass {
@@ -36,7 +38,7 @@ impl Model for Pass {
 
     ghost Value = { PassView };
 
-    ghost view = { λ p. pass_view (map seat_view p.stripes.items) (map (λ s. size_seat (seat_view s) (seat_claims s)) p.sizes.items) p.locks.items p.caller p.spare p.last p.begun };
+    ghost view = { λ p. pass_view (map seat_view p.stripes.items) (map (λ s. size_seat (seat_view s) (seat_claims s)) p.sizes.items) p.locks.items p.caller p.spare p.last p.begun p.bios };
 
     ghost invariant = { λ p. All (λ s. seat_claims s ≡ own_claims p.caller p.spare) p.stripes.items × All (λ s. IsSizeSeat p.caller p.spare (seat_claims s)) p.sizes.items };
 }

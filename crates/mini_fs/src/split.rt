@@ -11,6 +11,7 @@ ghost use Rattle.mini_fs.specs.Tickets.{KeepsTickets};
 
 use crate::mount::Mount;
 use crate::pass::Pass;
+use crate::shelves::SHELVES;
 use inode_lock::LockSeat;
 use range_core::{NextCaller, Range};
 use size_core::Sizes;
@@ -103,7 +104,8 @@ fn split_locks(
 
 impl Mount {
     /// A pass for another caller, which has the lowest spare caller number of `pass` and none to hand on. It has a share of 2^32
-    /// at each cell, has seen all that `pass` has, and holds no class.
+    /// at each cell, has seen all that `pass` has, and holds no class. It gets one of the shelves of `pass`, where there is
+    /// another.
     ///
     /// # Errors
     ///
@@ -121,10 +123,12 @@ impl Mount {
         let stripes = Vec::with_capacity(alloc, pass.stripes.len())?;
         let sizes = Vec::with_capacity(alloc, pass.sizes.len())?;
         let locks = Vec::with_capacity(alloc, pass.locks.len())?;
+        let shelves = Vec::with_capacity(alloc, SHELVES)?;
         let caller = lowest(pass.spare);
         let stripes = split_stripes(self, &mut pass.stripes, stripes);
         let sizes = split_sizes(self, &mut pass.sizes, sizes);
         let locks = split_locks(self, &mut pass.locks, locks);
+        let bios = pass.bios.split(&self.queue, shelves);
         pass.spare -= 1;
         Ok(Pass {
             stripes,
@@ -134,6 +138,7 @@ impl Mount {
             spare: 0,
             last: pass.last,
             begun: None,
+            bios,
         })
     }
 }

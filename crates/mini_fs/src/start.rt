@@ -8,6 +8,7 @@ ghost use Rattle.mini_fs.specs.PassView.{IsPassOf};
 ghost use Rattle.mini_fs.specs.Starts.{Started};
 
 use crate::mount::Mount;
+use crate::open_bios::open_bios;
 use crate::pass::Pass;
 use io_model::FileSpec;
 use iob_base::{Geometry, Sector, WORN};
@@ -53,6 +54,7 @@ impl Mount {
             pool,
             idle,
         } = laid;
+        let (queue, bios) = open_bios(alloc)?;
         let pass = Pass {
             stripes: stripe_seats,
             sizes: size_seats,
@@ -61,6 +63,7 @@ impl Mount {
             spare: u32::MAX,
             last: 0,
             begun: None,
+            bios,
         };
         let mount = Mount {
             alloc,
@@ -71,6 +74,7 @@ impl Mount {
             locks,
             pool,
             idle,
+            queue,
         };
         Ok((mount, pass))
     }

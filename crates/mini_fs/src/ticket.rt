@@ -35,7 +35,8 @@ pub struct Ticket {
 impl Model for Ticket {
     ghost use Rattle.std.specs.Prelude.{◌≡◌};
     ghost use Rattle.turn_cell.specs.Seats.{seat_claims, seat_view};
-    ghost use Rattle.mini_fs.specs.Tickets.{TicketView, ticket_claims, ticket_view};
+    ghost use Rattle.mini_fs.specs.TicketView.{TicketView, ticket_view};
+    ghost use Rattle.mini_fs.specs.Tickets.{ticket_claims};
 
     ghost Value = { TicketView };
 

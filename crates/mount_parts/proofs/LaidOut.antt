@@ -19,6 +19,7 @@ use Rattle.range_core.proofs.CellLemmas as run
 use Rattle.range_core.specs.Kinds.{kinds_from}
 use Rattle.range_core.specs.RangeView.{RangeView}
 use Rattle.size_core.specs.SizesView.{SizesView, fresh_sizes}
+use Rattle.bio_pages.specs.Queue.{QueueView}
 use Rattle.mount_parts.specs.FilePlaces.{place_of, places_from, sized_at, sizes_of_files, stripes_of_files}
 use Rattle.mount_parts.specs.FirstSizes.{first_sizes, size_from}
 use Rattle.mount_parts.specs.MountView.{IsLaidOut, IsStripe, mount_view, pool_share, size_cells, stripes_of}
@@ -152,8 +153,8 @@ module _ (geometry : Layout) (cookie : ℕ) (sectors idle : List DeviceBlock) (f
       sym (total-map (λ (o : RangeView). o.seat.share) (λ (c : CellView RangeView). c.opening) stripes)
       ∙ shares-are geometry cookie pool.cell (2 ^ 63) laid.pieces (map (λ c. c.opening) stripes) laid.opened (omega (arith, many, stripes-count, some)) (omega (arith, many, n, few))
 
-  laid-places : IsLaidOut (mount_view geometry (places_from 0 0 files) stripes sizes locks pool idle)
-  laid-places = record {
+  laid-places : (queue : QueueView) → IsLaidOut (mount_view geometry (places_from 0 0 files) stripes sizes locks pool idle queue)
+  laid-places queue = record {
     few = few-blocks 0 0 files are;
     order = lie-in-order 0 0 files (length stripes) (length sizes) (omega (arith, stripes-count)) (omega (arith, cells-are));
     stripes = λ f file i cell there below at. stripe-is geometry cookie pool.cell (2 ^ 63) files laid.pieces (map (λ c. c.opening) stripes) f i file cell.opening laid.cut laid.opened there below (map-there (λ (c : CellView RangeView). c.opening) stripes (file.stripe + i) cell at);
@@ -163,5 +164,5 @@ module _ (geometry : Layout) (cookie : ℕ) (sectors idle : List DeviceBlock) (f
     idle = λ some. laid.idle_is ∙ no-idle files sectors (let e = places-count 0 0 files in omega (arith, e, some));
   }
 
-  pub laid-out : (places : List FilePlace) → places ≡ places_from 0 0 files → IsLaidOut (mount_view geometry places stripes sizes locks pool idle)
-  laid-out places e = subst (λ p. IsLaidOut (mount_view geometry p stripes sizes locks pool idle)) (sym e) laid-places
+  pub laid-out : (places : List FilePlace) → places ≡ places_from 0 0 files → (queue : QueueView) → IsLaidOut (mount_view geometry places stripes sizes locks pool idle queue)
+  laid-out places e queue = subst (λ p. IsLaidOut (mount_view geometry p stripes sizes locks pool idle queue)) (sym e) (laid-places queue)

@@ -10,9 +10,10 @@ use Rattle.turn_cell.specs.Views.{CellView}
 use Rattle.range_core.specs.RangeView.{RangeView}
 use Rattle.size_core.specs.SizesView.{SizesView}
 use Rattle.space_pool.specs.Pool.{PoolView}
+use Rattle.bio_pages.specs.Queue.{QueueView}
 use Rattle.mount_parts.specs.declared.file.FilePlace.{FilePlace}
 
--- the sizes of blocks and folios, the files, the cells of all stripes of all files and of the sizes of those files that have one, the lock of each file, the pool, and the sectors of a device without files
+-- the sizes of blocks and folios, the files, the cells of all stripes of all files and of the sizes of those files that have one, the lock of each file, the pool, the sectors of a device without files, and the queue through which bios go
 pub record MountView : Type 0 where
   pub geometry : Layout
   pub files : List FilePlace
@@ -21,9 +22,10 @@ pub record MountView : Type 0 where
   pub locks : List TableId
   pub pool : CellView PoolView
   pub idle : List DeviceBlock
+  pub queue : QueueView
 
-abbrev pub mount_view : Layout → List FilePlace → List (CellView RangeView) → List (CellView SizesView) → List TableId → CellView PoolView → List DeviceBlock → MountView
-mount_view geometry files stripes sizes locks pool idle = record { geometry = geometry; files = files; stripes = stripes; sizes = sizes; locks = locks; pool = pool; idle = idle }
+abbrev pub mount_view : Layout → List FilePlace → List (CellView RangeView) → List (CellView SizesView) → List TableId → CellView PoolView → List DeviceBlock → QueueView → MountView
+mount_view geometry files stripes sizes locks pool idle queue = record { geometry = geometry; files = files; stripes = stripes; sizes = sizes; locks = locks; pool = pool; idle = idle; queue = queue }
 
 -- how many stripes so many blocks make
 abbrev pub stripes_of : ℕ → ℕ

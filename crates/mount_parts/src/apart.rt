@@ -3,6 +3,7 @@ ghost use Rattle.std.specs.Prelude.{◌≡◌, ◌^◌, All, IfOk, map};
 ghost use Rattle.crossbeam_utils.specs.Padded.{padded_value};
 ghost use Rattle.turn_cell.specs.Seats.{cell_view, seat_claims, seat_view};
 ghost use Rattle.space_pool.specs.Seats.{pool_cell};
+ghost use Rattle.bio_pages.specs.Queue.{QueueView};
 ghost use Rattle.mount_parts.specs.Ends.{ClaimsNoBlocks};
 ghost use Rattle.mount_parts.specs.FileEnds.{run_end};
 ghost use Rattle.mount_parts.specs.MountView.{IsLaidOut, mount_view};
@@ -60,13 +61,13 @@ pub fn take_apart(
     seats: Vec<TurnSeat<Range>>,
     size_seats: Vec<TurnSeat<Sizes>>,
 ) -> Result<Unmounted, AllocError>
-    requires laid { IsLaidOut (mount_view parts.geometry parts.files.items (map (λ c. cell_view (padded_value c)) parts.stripes.items) (map (λ c. cell_view (padded_value c)) parts.sizes.items) parts.locks.items (pool_cell parts.pool) parts.idle.items) }
+    requires laid { (queue : QueueView) × IsLaidOut (mount_view parts.geometry parts.files.items (map (λ c. cell_view (padded_value c)) parts.stripes.items) (map (λ c. cell_view (padded_value c)) parts.sizes.items) parts.locks.items (pool_cell parts.pool) parts.idle.items queue) }
     requires cells { map (λ s. (seat_view s).cell) seats.items ≡ map (λ c. (cell_view (padded_value c)).cell) parts.stripes.items }
     requires whole { All (λ s. (seat_view s).share ≡ 2 ^ 63) seats.items }
     requires free { All (λ s. ClaimsNoBlocks (seat_claims s)) seats.items }
     requires size_cells { map (λ s. (seat_view s).cell) size_seats.items ≡ map (λ c. (cell_view (padded_value c)).cell) parts.sizes.items }
     requires sizes_whole { All (λ s. (seat_view s).share ≡ 2 ^ 63) size_seats.items }
-    ensures { IfOk result (λ u. Unmounts (mount_view parts.geometry parts.files.items (map (λ c. cell_view (padded_value c)) parts.stripes.items) (map (λ c. cell_view (padded_value c)) parts.sizes.items) parts.locks.items (pool_cell parts.pool) parts.idle.items) (map seat_view seats.items) (map seat_view size_seats.items) u) }
+    ensures { IfOk result (λ u. (queue : QueueView) → Unmounts (mount_view parts.geometry parts.files.items (map (λ c. cell_view (padded_value c)) parts.stripes.items) (map (λ c. cell_view (padded_value c)) parts.sizes.items) parts.locks.items (pool_cell parts.pool) parts.idle.items queue) (map seat_view seats.items) (map seat_view size_seats.items) u) }
 {
     let Parts {
         geometry: _,

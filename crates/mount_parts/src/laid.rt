@@ -8,6 +8,7 @@ ghost use Rattle.turn_cell.specs.Seats.{cell_view, seat_claims, seat_view};
 ghost use Rattle.space_pool.specs.Seats.{pool_cell};
 ghost use Rattle.range_core.specs.ClaimsView.{first_claims};
 ghost use Rattle.size_core.specs.ClaimsView as size;
+ghost use Rattle.bio_pages.specs.Queue.{QueueView};
 ghost use Rattle.mount_parts.specs.FilePlaces.{places_from};
 ghost use Rattle.mount_parts.specs.FirstSizes.{MayHaveSize, first_sizes};
 ghost use Rattle.mount_parts.specs.Locks.{AreFresh};
@@ -66,7 +67,7 @@ pub fn lay_files(
     requires named { AreNamedOnce (length sectors.items) (numbers_of_files files.now) }
     requires sized { All (MayHaveSize geometry.block_size) files.now }
     requires cookie { cookie ≤ WORN }
-    ensures laid { IfOk result (λ l. IsLaidOut (mount_view geometry l.files.items (map (λ c. cell_view (padded_value c)) l.stripes.items) (map (λ c. cell_view (padded_value c)) l.sizes.items) l.locks.items (pool_cell l.pool) l.idle.items)) }
+    ensures laid { IfOk result (λ l. (queue : QueueView) → IsLaidOut (mount_view geometry l.files.items (map (λ c. cell_view (padded_value c)) l.stripes.items) (map (λ c. cell_view (padded_value c)) l.sizes.items) l.locks.items (pool_cell l.pool) l.idle.items queue)) }
     ensures files { IfOk result (λ l. l.files.items ≡ places_from 0 0 files.now) }
     ensures stripes { IfOk result (λ l. LaidStripes geometry cookie sectors.items files.now (map (λ c. (cell_view (padded_value c)).opening) l.stripes.items) (pool_cell l.pool) l.idle.items) }
     ensures contents { IfOk result (λ l. HaveContents geometry.block_size sectors.items files.now (map (λ c. (cell_view (padded_value c)).opening) l.stripes.items)) }

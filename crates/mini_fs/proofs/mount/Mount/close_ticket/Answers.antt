@@ -6,7 +6,8 @@ use Rattle.range_core.specs.ClaimsView.{ClaimsView, MayMerge}
 use Rattle.range_core.specs.declared.entry.Entry.{Entry}
 use Rattle.mount_parts.specs.MountView.{MountView}
 use Rattle.mini_fs.specs.PassView.{PassView, IsPassOf, claims_of, own_claims}
-use Rattle.mini_fs.specs.Tickets.{IsLoanSeat, IsTicketOf, KeepsTickets, TicketView, ticket_claims, ticket_view, with_share}
+use Rattle.mini_fs.specs.TicketView.{TicketView, ticket_view}
+use Rattle.mini_fs.specs.Tickets.{IsLoanSeat, IsTicketOf, KeepsTickets, ticket_claims, with_share}
 use Rattle.mini_fs.specs.Turns.{StandAt, with_seat}
 use Rattle.mini_fs.proofs.Loans.{joined-loan, may-merge, loan-at}
 use Rattle.mount_parts.proofs.Places.{same-at}
@@ -21,9 +22,9 @@ join-requires-clause-cell c =
     let i = c.ticket.inside.stripe in
     let x = c.index_mut.result.now in
     let cell = cell_view c.range_cell-cell.result.now in
-    let there = seat-there seat_view r.stripes.items _ r.locks.items r.caller r.spare r.last r.begun p c.pass.view_is i m c.requires.of x cell c.index_mut.ensures.value c.range_cell-cell.ensures in
-    let stand : StandAt m p i cell (seat_view x) = stands-at seat_view r.stripes.items _ r.locks.items r.caller r.spare r.last r.begun p c.pass.view_is i m c.requires.of x cell c.index_mut.ensures.value c.range_cell-cell.ensures in
-    let own : (seat_view x).cell ≡ cell.cell = stands-in seat_view r.stripes.items _ r.locks.items r.caller r.spare r.last r.begun p c.pass.view_is i m c.requires.of x cell c.index_mut.ensures.value c.range_cell-cell.ensures in
+    let there = seat-there seat_view r.stripes.items _ r.locks.items r.caller r.spare r.last r.begun r.bios p c.pass.view_is i m c.requires.of x cell c.index_mut.ensures.value c.range_cell-cell.ensures in
+    let stand : StandAt m p i cell (seat_view x) = stands-at seat_view r.stripes.items _ r.locks.items r.caller r.spare r.last r.begun r.bios p c.pass.view_is i m c.requires.of x cell c.index_mut.ensures.value c.range_cell-cell.ensures in
+    let own : (seat_view x).cell ≡ cell.cell = stands-in seat_view r.stripes.items _ r.locks.items r.caller r.spare r.last r.begun r.bios p c.pass.view_is i m c.requires.of x cell c.index_mut.ensures.value c.range_cell-cell.ensures in
     let claims : seat_claims x ≡ claims_of p = same-at seat_claims r.stripes.items (own_claims r.caller r.spare) i x c.pass.invariant.0 there ∙ ap claims_of c.pass.view_is in
     let ts = c.ticket.inside.seat in
     let t : TicketView = ticket_view i (seat_view ts) (seat_claims ts) in
@@ -41,9 +42,9 @@ join-requires-clause-merge c =
     let i = c.ticket.inside.stripe in
     let x = c.index_mut.result.now in
     let cell = cell_view c.range_cell-cell.result.now in
-    let there = seat-there seat_view r.stripes.items _ r.locks.items r.caller r.spare r.last r.begun p c.pass.view_is i m c.requires.of x cell c.index_mut.ensures.value c.range_cell-cell.ensures in
-    let stand : StandAt m p i cell (seat_view x) = stands-at seat_view r.stripes.items _ r.locks.items r.caller r.spare r.last r.begun p c.pass.view_is i m c.requires.of x cell c.index_mut.ensures.value c.range_cell-cell.ensures in
-    let own : (seat_view x).cell ≡ cell.cell = stands-in seat_view r.stripes.items _ r.locks.items r.caller r.spare r.last r.begun p c.pass.view_is i m c.requires.of x cell c.index_mut.ensures.value c.range_cell-cell.ensures in
+    let there = seat-there seat_view r.stripes.items _ r.locks.items r.caller r.spare r.last r.begun r.bios p c.pass.view_is i m c.requires.of x cell c.index_mut.ensures.value c.range_cell-cell.ensures in
+    let stand : StandAt m p i cell (seat_view x) = stands-at seat_view r.stripes.items _ r.locks.items r.caller r.spare r.last r.begun r.bios p c.pass.view_is i m c.requires.of x cell c.index_mut.ensures.value c.range_cell-cell.ensures in
+    let own : (seat_view x).cell ≡ cell.cell = stands-in seat_view r.stripes.items _ r.locks.items r.caller r.spare r.last r.begun r.bios p c.pass.view_is i m c.requires.of x cell c.index_mut.ensures.value c.range_cell-cell.ensures in
     let claims : seat_claims x ≡ claims_of p = same-at seat_claims r.stripes.items (own_claims r.caller r.spare) i x c.pass.invariant.0 there ∙ ap claims_of c.pass.view_is in
     let ts = c.ticket.inside.seat in
     let t : TicketView = ticket_view i (seat_view ts) (seat_claims ts) in
@@ -61,9 +62,9 @@ returns-clause-of c =
     let i = c.ticket.inside.stripe in
     let x = c.index_mut.result.now in
     let cell = cell_view c.range_cell-cell.result.now in
-    let there = seat-there seat_view r.stripes.items _ r.locks.items r.caller r.spare r.last r.begun p c.pass.view_is i m c.requires.of x cell c.index_mut.ensures.value c.range_cell-cell.ensures in
-    let stand : StandAt m p i cell (seat_view x) = stands-at seat_view r.stripes.items _ r.locks.items r.caller r.spare r.last r.begun p c.pass.view_is i m c.requires.of x cell c.index_mut.ensures.value c.range_cell-cell.ensures in
-    let own : (seat_view x).cell ≡ cell.cell = stands-in seat_view r.stripes.items _ r.locks.items r.caller r.spare r.last r.begun p c.pass.view_is i m c.requires.of x cell c.index_mut.ensures.value c.range_cell-cell.ensures in
+    let there = seat-there seat_view r.stripes.items _ r.locks.items r.caller r.spare r.last r.begun r.bios p c.pass.view_is i m c.requires.of x cell c.index_mut.ensures.value c.range_cell-cell.ensures in
+    let stand : StandAt m p i cell (seat_view x) = stands-at seat_view r.stripes.items _ r.locks.items r.caller r.spare r.last r.begun r.bios p c.pass.view_is i m c.requires.of x cell c.index_mut.ensures.value c.range_cell-cell.ensures in
+    let own : (seat_view x).cell ≡ cell.cell = stands-in seat_view r.stripes.items _ r.locks.items r.caller r.spare r.last r.begun r.bios p c.pass.view_is i m c.requires.of x cell c.index_mut.ensures.value c.range_cell-cell.ensures in
     let claims : seat_claims x ≡ claims_of p = same-at seat_claims r.stripes.items (own_claims r.caller r.spare) i x c.pass.invariant.0 there ∙ ap claims_of c.pass.view_is in
     let ts = c.ticket.inside.seat in
     let t : TicketView = ticket_view i (seat_view ts) (seat_claims ts) in
@@ -74,7 +75,7 @@ returns-clause-of c =
     let y = c.join.new.into in
     let joins : seat_view y ≡ with_share (seat_view x) (seat_view ts).share = c.join.ensures.seat ∙ joined-loan (seat_view x) (seat_view ts) loan in
     let same : (seat_view y).cell ≡ (seat_view x).cell = ap (λ (s : SeatView Entry). s.cell) joins in
-    let pass_is = seat-set seat_view r.stripes.items _ r.locks.items r.caller r.spare r.last r.begun p c.pass.view_is i y in
+    let pass_is = seat-set seat_view r.stripes.items _ r.locks.items r.caller r.spare r.last r.begun r.bios p c.pass.view_is i y in
     subst (IsPassOf m) (sym pass_is) (of-with_seat p i (seat_view x) (seat_view y) stand.seat_is same m c.requires.of)
 
 pub returns-clause-closed : goal.returns-clause-closed
@@ -85,9 +86,9 @@ returns-clause-closed c =
     let i = c.ticket.inside.stripe in
     let x = c.index_mut.result.now in
     let cell = cell_view c.range_cell-cell.result.now in
-    let there = seat-there seat_view r.stripes.items _ r.locks.items r.caller r.spare r.last r.begun p c.pass.view_is i m c.requires.of x cell c.index_mut.ensures.value c.range_cell-cell.ensures in
-    let stand : StandAt m p i cell (seat_view x) = stands-at seat_view r.stripes.items _ r.locks.items r.caller r.spare r.last r.begun p c.pass.view_is i m c.requires.of x cell c.index_mut.ensures.value c.range_cell-cell.ensures in
-    let own : (seat_view x).cell ≡ cell.cell = stands-in seat_view r.stripes.items _ r.locks.items r.caller r.spare r.last r.begun p c.pass.view_is i m c.requires.of x cell c.index_mut.ensures.value c.range_cell-cell.ensures in
+    let there = seat-there seat_view r.stripes.items _ r.locks.items r.caller r.spare r.last r.begun r.bios p c.pass.view_is i m c.requires.of x cell c.index_mut.ensures.value c.range_cell-cell.ensures in
+    let stand : StandAt m p i cell (seat_view x) = stands-at seat_view r.stripes.items _ r.locks.items r.caller r.spare r.last r.begun r.bios p c.pass.view_is i m c.requires.of x cell c.index_mut.ensures.value c.range_cell-cell.ensures in
+    let own : (seat_view x).cell ≡ cell.cell = stands-in seat_view r.stripes.items _ r.locks.items r.caller r.spare r.last r.begun r.bios p c.pass.view_is i m c.requires.of x cell c.index_mut.ensures.value c.range_cell-cell.ensures in
     let claims : seat_claims x ≡ claims_of p = same-at seat_claims r.stripes.items (own_claims r.caller r.spare) i x c.pass.invariant.0 there ∙ ap claims_of c.pass.view_is in
     let ts = c.ticket.inside.seat in
     let t : TicketView = ticket_view i (seat_view ts) (seat_claims ts) in
@@ -98,7 +99,7 @@ returns-clause-closed c =
     let y = c.join.new.into in
     let joins : seat_view y ≡ with_share (seat_view x) (seat_view ts).share = c.join.ensures.seat ∙ joined-loan (seat_view x) (seat_view ts) loan in
     let same : (seat_view y).cell ≡ (seat_view x).cell = ap (λ (s : SeatView Entry). s.cell) joins in
-    let pass_is = seat-set seat_view r.stripes.items _ r.locks.items r.caller r.spare r.last r.begun p c.pass.view_is i y in
+    let pass_is = seat-set seat_view r.stripes.items _ r.locks.items r.caller r.spare r.last r.begun r.bios p c.pass.view_is i y in
     record {
       seat = seat_view x;
       here = subst (λ (v : TicketView). slice_get p.stripes v.stripe ≡ Some (seat_view x)) c.ticket.view_is stand.seat_is;
@@ -113,9 +114,9 @@ returns-clause-tickets c =
     let i = c.ticket.inside.stripe in
     let x = c.index_mut.result.now in
     let cell = cell_view c.range_cell-cell.result.now in
-    let there = seat-there seat_view r.stripes.items _ r.locks.items r.caller r.spare r.last r.begun p c.pass.view_is i m c.requires.of x cell c.index_mut.ensures.value c.range_cell-cell.ensures in
-    let stand : StandAt m p i cell (seat_view x) = stands-at seat_view r.stripes.items _ r.locks.items r.caller r.spare r.last r.begun p c.pass.view_is i m c.requires.of x cell c.index_mut.ensures.value c.range_cell-cell.ensures in
-    let own : (seat_view x).cell ≡ cell.cell = stands-in seat_view r.stripes.items _ r.locks.items r.caller r.spare r.last r.begun p c.pass.view_is i m c.requires.of x cell c.index_mut.ensures.value c.range_cell-cell.ensures in
+    let there = seat-there seat_view r.stripes.items _ r.locks.items r.caller r.spare r.last r.begun r.bios p c.pass.view_is i m c.requires.of x cell c.index_mut.ensures.value c.range_cell-cell.ensures in
+    let stand : StandAt m p i cell (seat_view x) = stands-at seat_view r.stripes.items _ r.locks.items r.caller r.spare r.last r.begun r.bios p c.pass.view_is i m c.requires.of x cell c.index_mut.ensures.value c.range_cell-cell.ensures in
+    let own : (seat_view x).cell ≡ cell.cell = stands-in seat_view r.stripes.items _ r.locks.items r.caller r.spare r.last r.begun r.bios p c.pass.view_is i m c.requires.of x cell c.index_mut.ensures.value c.range_cell-cell.ensures in
     let claims : seat_claims x ≡ claims_of p = same-at seat_claims r.stripes.items (own_claims r.caller r.spare) i x c.pass.invariant.0 there ∙ ap claims_of c.pass.view_is in
     let ts = c.ticket.inside.seat in
     let t : TicketView = ticket_view i (seat_view ts) (seat_claims ts) in
@@ -126,5 +127,5 @@ returns-clause-tickets c =
     let y = c.join.new.into in
     let joins : seat_view y ≡ with_share (seat_view x) (seat_view ts).share = c.join.ensures.seat ∙ joined-loan (seat_view x) (seat_view ts) loan in
     let same : (seat_view y).cell ≡ (seat_view x).cell = ap (λ (s : SeatView Entry). s.cell) joins in
-    let pass_is = seat-set seat_view r.stripes.items _ r.locks.items r.caller r.spare r.last r.begun p c.pass.view_is i y in
+    let pass_is = seat-set seat_view r.stripes.items _ r.locks.items r.caller r.spare r.last r.begun r.bios p c.pass.view_is i y in
     subst (KeepsTickets p) (sym pass_is) (tickets-with_seat p i (seat_view x) (seat_view y) stand.seat_is same c.join.ensures.begins.0)

@@ -101,9 +101,9 @@ returns-clause-of c =
     let spare : (r.spare ≡ 0) ⊎ (f.spare ≡ 0) = elim c.requires.can.spare [ inl e ↦ inl (ap (λ (v : PassView). v.spare) c.into.view_is ∙ e) | inr e ↦ inr (ap (λ (v : PassView). v.spare) c.from.view_is ∙ e) ] in
     let js = c.join_stripes in
     let jz = c.join_sizes in
-    let is : pass_view (map seat_view js.new.seats.items) (map (λ s. size_seat (seat_view s) (seat_claims s)) jz.new.seats.items) r.locks.items r.caller (r.spare + f.spare) c.later-last.result r.begun ≡ joined_pass p q =
+    let is : pass_view (map seat_view js.new.seats.items) (map (λ s. size_seat (seat_view s) (seat_claims s)) jz.new.seats.items) r.locks.items r.caller (r.spare + f.spare) c.later-last.result r.begun c.join.new.self ≡ joined_pass p q =
     (λ j. pass_view (paired-seen (λ s. stripe_place (seat_view s) (seat_claims s)) joined_stripe_place (λ v. v.seat) joined (λ v w. refl) js.new.seats.items r.stripes.items f.stripes.items js.ensures.joined j)
-    (paired-seen (λ s. size_place (seat_view s) (seat_claims s)) joined_size_place (λ v. size_seat v.seat v.claims) joined_size (λ v w. refl) jz.new.seats.items r.sizes.items f.sizes.items jz.ensures.joined j) r.locks.items r.caller (r.spare + f.spare) (c.later-last.ensures j) r.begun)
+    (paired-seen (λ s. size_place (seat_view s) (seat_claims s)) joined_size_place (λ v. size_seat v.seat v.claims) joined_size (λ v w. refl) jz.new.seats.items r.sizes.items f.sizes.items jz.ensures.joined j) r.locks.items r.caller (r.spare + f.spare) (c.later-last.ensures j) r.begun (c.join.ensures j))
     ∙ (λ j. joined_pass (c.into.view_is j) (c.from.view_is j)) in
     let both : JoinedHistories p q = joined-histories seat_view seat_claims seat_view seat_claims r.stripes.items f.stripes.items r.sizes.items f.sizes.items p q (ap (λ (v : PassView). v.stripes) c.into.view_is) (ap (λ (v : PassView). v.stripes) c.from.view_is) (ap (λ (v : PassView). v.sizes) c.into.view_is) (ap (λ (v : PassView). v.sizes) c.from.view_is) js.ensures.begins jz.ensures.begins in
     subst (IsPassOf m) (sym is) (of-joined m p q c.requires.of)
@@ -118,9 +118,9 @@ returns-clause-joined c =
     let spare : (r.spare ≡ 0) ⊎ (f.spare ≡ 0) = elim c.requires.can.spare [ inl e ↦ inl (ap (λ (v : PassView). v.spare) c.into.view_is ∙ e) | inr e ↦ inr (ap (λ (v : PassView). v.spare) c.from.view_is ∙ e) ] in
     let js = c.join_stripes in
     let jz = c.join_sizes in
-    let is : pass_view (map seat_view js.new.seats.items) (map (λ s. size_seat (seat_view s) (seat_claims s)) jz.new.seats.items) r.locks.items r.caller (r.spare + f.spare) c.later-last.result r.begun ≡ joined_pass p q =
+    let is : pass_view (map seat_view js.new.seats.items) (map (λ s. size_seat (seat_view s) (seat_claims s)) jz.new.seats.items) r.locks.items r.caller (r.spare + f.spare) c.later-last.result r.begun c.join.new.self ≡ joined_pass p q =
     (λ j. pass_view (paired-seen (λ s. stripe_place (seat_view s) (seat_claims s)) joined_stripe_place (λ v. v.seat) joined (λ v w. refl) js.new.seats.items r.stripes.items f.stripes.items js.ensures.joined j)
-    (paired-seen (λ s. size_place (seat_view s) (seat_claims s)) joined_size_place (λ v. size_seat v.seat v.claims) joined_size (λ v w. refl) jz.new.seats.items r.sizes.items f.sizes.items jz.ensures.joined j) r.locks.items r.caller (r.spare + f.spare) (c.later-last.ensures j) r.begun)
+    (paired-seen (λ s. size_place (seat_view s) (seat_claims s)) joined_size_place (λ v. size_seat v.seat v.claims) joined_size (λ v w. refl) jz.new.seats.items r.sizes.items f.sizes.items jz.ensures.joined j) r.locks.items r.caller (r.spare + f.spare) (c.later-last.ensures j) r.begun (c.join.ensures j))
     ∙ (λ j. joined_pass (c.into.view_is j) (c.from.view_is j)) in
     let both : JoinedHistories p q = joined-histories seat_view seat_claims seat_view seat_claims r.stripes.items f.stripes.items r.sizes.items f.sizes.items p q (ap (λ (v : PassView). v.stripes) c.into.view_is) (ap (λ (v : PassView). v.stripes) c.from.view_is) (ap (λ (v : PassView). v.sizes) c.into.view_is) (ap (λ (v : PassView). v.sizes) c.from.view_is) js.ensures.begins jz.ensures.begins in
     is
@@ -135,9 +135,9 @@ returns-clause-histories c =
     let spare : (r.spare ≡ 0) ⊎ (f.spare ≡ 0) = elim c.requires.can.spare [ inl e ↦ inl (ap (λ (v : PassView). v.spare) c.into.view_is ∙ e) | inr e ↦ inr (ap (λ (v : PassView). v.spare) c.from.view_is ∙ e) ] in
     let js = c.join_stripes in
     let jz = c.join_sizes in
-    let is : pass_view (map seat_view js.new.seats.items) (map (λ s. size_seat (seat_view s) (seat_claims s)) jz.new.seats.items) r.locks.items r.caller (r.spare + f.spare) c.later-last.result r.begun ≡ joined_pass p q =
+    let is : pass_view (map seat_view js.new.seats.items) (map (λ s. size_seat (seat_view s) (seat_claims s)) jz.new.seats.items) r.locks.items r.caller (r.spare + f.spare) c.later-last.result r.begun c.join.new.self ≡ joined_pass p q =
     (λ j. pass_view (paired-seen (λ s. stripe_place (seat_view s) (seat_claims s)) joined_stripe_place (λ v. v.seat) joined (λ v w. refl) js.new.seats.items r.stripes.items f.stripes.items js.ensures.joined j)
-    (paired-seen (λ s. size_place (seat_view s) (seat_claims s)) joined_size_place (λ v. size_seat v.seat v.claims) joined_size (λ v w. refl) jz.new.seats.items r.sizes.items f.sizes.items jz.ensures.joined j) r.locks.items r.caller (r.spare + f.spare) (c.later-last.ensures j) r.begun)
+    (paired-seen (λ s. size_place (seat_view s) (seat_claims s)) joined_size_place (λ v. size_seat v.seat v.claims) joined_size (λ v w. refl) jz.new.seats.items r.sizes.items f.sizes.items jz.ensures.joined j) r.locks.items r.caller (r.spare + f.spare) (c.later-last.ensures j) r.begun (c.join.ensures j))
     ∙ (λ j. joined_pass (c.into.view_is j) (c.from.view_is j)) in
     let both : JoinedHistories p q = joined-histories seat_view seat_claims seat_view seat_claims r.stripes.items f.stripes.items r.sizes.items f.sizes.items p q (ap (λ (v : PassView). v.stripes) c.into.view_is) (ap (λ (v : PassView). v.stripes) c.from.view_is) (ap (λ (v : PassView). v.sizes) c.into.view_is) (ap (λ (v : PassView). v.sizes) c.from.view_is) js.ensures.begins jz.ensures.begins in
     both
@@ -152,9 +152,9 @@ returns-clause-tickets c =
     let spare : (r.spare ≡ 0) ⊎ (f.spare ≡ 0) = elim c.requires.can.spare [ inl e ↦ inl (ap (λ (v : PassView). v.spare) c.into.view_is ∙ e) | inr e ↦ inr (ap (λ (v : PassView). v.spare) c.from.view_is ∙ e) ] in
     let js = c.join_stripes in
     let jz = c.join_sizes in
-    let is : pass_view (map seat_view js.new.seats.items) (map (λ s. size_seat (seat_view s) (seat_claims s)) jz.new.seats.items) r.locks.items r.caller (r.spare + f.spare) c.later-last.result r.begun ≡ joined_pass p q =
+    let is : pass_view (map seat_view js.new.seats.items) (map (λ s. size_seat (seat_view s) (seat_claims s)) jz.new.seats.items) r.locks.items r.caller (r.spare + f.spare) c.later-last.result r.begun c.join.new.self ≡ joined_pass p q =
     (λ j. pass_view (paired-seen (λ s. stripe_place (seat_view s) (seat_claims s)) joined_stripe_place (λ v. v.seat) joined (λ v w. refl) js.new.seats.items r.stripes.items f.stripes.items js.ensures.joined j)
-    (paired-seen (λ s. size_place (seat_view s) (seat_claims s)) joined_size_place (λ v. size_seat v.seat v.claims) joined_size (λ v w. refl) jz.new.seats.items r.sizes.items f.sizes.items jz.ensures.joined j) r.locks.items r.caller (r.spare + f.spare) (c.later-last.ensures j) r.begun)
+    (paired-seen (λ s. size_place (seat_view s) (seat_claims s)) joined_size_place (λ v. size_seat v.seat v.claims) joined_size (λ v w. refl) jz.new.seats.items r.sizes.items f.sizes.items jz.ensures.joined j) r.locks.items r.caller (r.spare + f.spare) (c.later-last.ensures j) r.begun (c.join.ensures j))
     ∙ (λ j. joined_pass (c.into.view_is j) (c.from.view_is j)) in
     let both : JoinedHistories p q = joined-histories seat_view seat_claims seat_view seat_claims r.stripes.items f.stripes.items r.sizes.items f.sizes.items p q (ap (λ (v : PassView). v.stripes) c.into.view_is) (ap (λ (v : PassView). v.stripes) c.from.view_is) (ap (λ (v : PassView). v.sizes) c.into.view_is) (ap (λ (v : PassView). v.sizes) c.from.view_is) js.ensures.begins jz.ensures.begins in
     subst (KeepsTickets p) (sym is) (tickets-joined m p q c.requires.of c.requires.other both)

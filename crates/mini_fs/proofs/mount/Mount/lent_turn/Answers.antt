@@ -3,7 +3,8 @@ use Rattle.turn_cell.specs.Seats.{cell_view, seat_claims, seat_view}
 use Rattle.range_core.specs.ClaimsView.{ClaimsView}
 use Rattle.mount_parts.specs.MountView.{MountView}
 use Rattle.mini_fs.specs.PassView.{PassView, IsPassOf, claims_of, own_claims}
-use Rattle.mini_fs.specs.Tickets.{IsLoanSeat, IsTicketOf, KeepsTickets, TicketView, lent_claims, ticket_claims, ticket_view, with_held}
+use Rattle.mini_fs.specs.TicketView.{TicketView, ticket_view}
+use Rattle.mini_fs.specs.Tickets.{IsLoanSeat, IsTicketOf, KeepsTickets, lent_claims, ticket_claims, with_held}
 use Rattle.mini_fs.specs.Turns.{StandAt, with_seat}
 use Rattle.mini_fs.proofs.Loans.{turned-begins, turned-claims, loan-at, new-loan}
 use Rattle.mount_parts.proofs.Places.{same-at, set-same}
@@ -18,9 +19,9 @@ turn_with-seat-requires-clause-cell g c =
     let i = c.ticket.inside.stripe in
     let x = c.index_mut.result.now in
     let cell = cell_view c.range_cell-cell.result.now in
-    let there = seat-there seat_view r.stripes.items _ r.locks.items r.caller r.spare r.last r.begun p c.pass.view_is i m c.requires.of x cell c.index_mut.ensures.value c.range_cell-cell.ensures in
-    let stand : StandAt m p i cell (seat_view x) = stands-at seat_view r.stripes.items _ r.locks.items r.caller r.spare r.last r.begun p c.pass.view_is i m c.requires.of x cell c.index_mut.ensures.value c.range_cell-cell.ensures in
-    let own : (seat_view x).cell ≡ cell.cell = stands-in seat_view r.stripes.items _ r.locks.items r.caller r.spare r.last r.begun p c.pass.view_is i m c.requires.of x cell c.index_mut.ensures.value c.range_cell-cell.ensures in
+    let there = seat-there seat_view r.stripes.items _ r.locks.items r.caller r.spare r.last r.begun r.bios p c.pass.view_is i m c.requires.of x cell c.index_mut.ensures.value c.range_cell-cell.ensures in
+    let stand : StandAt m p i cell (seat_view x) = stands-at seat_view r.stripes.items _ r.locks.items r.caller r.spare r.last r.begun r.bios p c.pass.view_is i m c.requires.of x cell c.index_mut.ensures.value c.range_cell-cell.ensures in
+    let own : (seat_view x).cell ≡ cell.cell = stands-in seat_view r.stripes.items _ r.locks.items r.caller r.spare r.last r.begun r.bios p c.pass.view_is i m c.requires.of x cell c.index_mut.ensures.value c.range_cell-cell.ensures in
     let claims : seat_claims x ≡ claims_of p = same-at seat_claims r.stripes.items (own_claims r.caller r.spare) i x c.pass.invariant.0 there ∙ ap claims_of c.pass.view_is in
     let ts = c.ticket.inside.seat in
     let t : TicketView = ticket_view i (seat_view ts) (seat_claims ts) in
@@ -38,9 +39,9 @@ turn_with-seat-requires-clause-free g c =
     let i = c.ticket.inside.stripe in
     let x = c.index_mut.result.now in
     let cell = cell_view c.range_cell-cell.result.now in
-    let there = seat-there seat_view r.stripes.items _ r.locks.items r.caller r.spare r.last r.begun p c.pass.view_is i m c.requires.of x cell c.index_mut.ensures.value c.range_cell-cell.ensures in
-    let stand : StandAt m p i cell (seat_view x) = stands-at seat_view r.stripes.items _ r.locks.items r.caller r.spare r.last r.begun p c.pass.view_is i m c.requires.of x cell c.index_mut.ensures.value c.range_cell-cell.ensures in
-    let own : (seat_view x).cell ≡ cell.cell = stands-in seat_view r.stripes.items _ r.locks.items r.caller r.spare r.last r.begun p c.pass.view_is i m c.requires.of x cell c.index_mut.ensures.value c.range_cell-cell.ensures in
+    let there = seat-there seat_view r.stripes.items _ r.locks.items r.caller r.spare r.last r.begun r.bios p c.pass.view_is i m c.requires.of x cell c.index_mut.ensures.value c.range_cell-cell.ensures in
+    let stand : StandAt m p i cell (seat_view x) = stands-at seat_view r.stripes.items _ r.locks.items r.caller r.spare r.last r.begun r.bios p c.pass.view_is i m c.requires.of x cell c.index_mut.ensures.value c.range_cell-cell.ensures in
+    let own : (seat_view x).cell ≡ cell.cell = stands-in seat_view r.stripes.items _ r.locks.items r.caller r.spare r.last r.begun r.bios p c.pass.view_is i m c.requires.of x cell c.index_mut.ensures.value c.range_cell-cell.ensures in
     let claims : seat_claims x ≡ claims_of p = same-at seat_claims r.stripes.items (own_claims r.caller r.spare) i x c.pass.invariant.0 there ∙ ap claims_of c.pass.view_is in
     let ts = c.ticket.inside.seat in
     let t : TicketView = ticket_view i (seat_view ts) (seat_claims ts) in
@@ -58,9 +59,9 @@ turn_with-seat-requires-clause-loan g c =
     let i = c.ticket.inside.stripe in
     let x = c.index_mut.result.now in
     let cell = cell_view c.range_cell-cell.result.now in
-    let there = seat-there seat_view r.stripes.items _ r.locks.items r.caller r.spare r.last r.begun p c.pass.view_is i m c.requires.of x cell c.index_mut.ensures.value c.range_cell-cell.ensures in
-    let stand : StandAt m p i cell (seat_view x) = stands-at seat_view r.stripes.items _ r.locks.items r.caller r.spare r.last r.begun p c.pass.view_is i m c.requires.of x cell c.index_mut.ensures.value c.range_cell-cell.ensures in
-    let own : (seat_view x).cell ≡ cell.cell = stands-in seat_view r.stripes.items _ r.locks.items r.caller r.spare r.last r.begun p c.pass.view_is i m c.requires.of x cell c.index_mut.ensures.value c.range_cell-cell.ensures in
+    let there = seat-there seat_view r.stripes.items _ r.locks.items r.caller r.spare r.last r.begun r.bios p c.pass.view_is i m c.requires.of x cell c.index_mut.ensures.value c.range_cell-cell.ensures in
+    let stand : StandAt m p i cell (seat_view x) = stands-at seat_view r.stripes.items _ r.locks.items r.caller r.spare r.last r.begun r.bios p c.pass.view_is i m c.requires.of x cell c.index_mut.ensures.value c.range_cell-cell.ensures in
+    let own : (seat_view x).cell ≡ cell.cell = stands-in seat_view r.stripes.items _ r.locks.items r.caller r.spare r.last r.begun r.bios p c.pass.view_is i m c.requires.of x cell c.index_mut.ensures.value c.range_cell-cell.ensures in
     let claims : seat_claims x ≡ claims_of p = same-at seat_claims r.stripes.items (own_claims r.caller r.spare) i x c.pass.invariant.0 there ∙ ap claims_of c.pass.view_is in
     let ts = c.ticket.inside.seat in
     let t : TicketView = ticket_view i (seat_view ts) (seat_claims ts) in
@@ -78,9 +79,9 @@ turn_with-seat-requires-clause-carries g c =
     let i = c.ticket.inside.stripe in
     let x = c.index_mut.result.now in
     let cell = cell_view c.range_cell-cell.result.now in
-    let there = seat-there seat_view r.stripes.items _ r.locks.items r.caller r.spare r.last r.begun p c.pass.view_is i m c.requires.of x cell c.index_mut.ensures.value c.range_cell-cell.ensures in
-    let stand : StandAt m p i cell (seat_view x) = stands-at seat_view r.stripes.items _ r.locks.items r.caller r.spare r.last r.begun p c.pass.view_is i m c.requires.of x cell c.index_mut.ensures.value c.range_cell-cell.ensures in
-    let own : (seat_view x).cell ≡ cell.cell = stands-in seat_view r.stripes.items _ r.locks.items r.caller r.spare r.last r.begun p c.pass.view_is i m c.requires.of x cell c.index_mut.ensures.value c.range_cell-cell.ensures in
+    let there = seat-there seat_view r.stripes.items _ r.locks.items r.caller r.spare r.last r.begun r.bios p c.pass.view_is i m c.requires.of x cell c.index_mut.ensures.value c.range_cell-cell.ensures in
+    let stand : StandAt m p i cell (seat_view x) = stands-at seat_view r.stripes.items _ r.locks.items r.caller r.spare r.last r.begun r.bios p c.pass.view_is i m c.requires.of x cell c.index_mut.ensures.value c.range_cell-cell.ensures in
+    let own : (seat_view x).cell ≡ cell.cell = stands-in seat_view r.stripes.items _ r.locks.items r.caller r.spare r.last r.begun r.bios p c.pass.view_is i m c.requires.of x cell c.index_mut.ensures.value c.range_cell-cell.ensures in
     let claims : seat_claims x ≡ claims_of p = same-at seat_claims r.stripes.items (own_claims r.caller r.spare) i x c.pass.invariant.0 there ∙ ap claims_of c.pass.view_is in
     let ts = c.ticket.inside.seat in
     let t : TicketView = ticket_view i (seat_view ts) (seat_claims ts) in
@@ -98,9 +99,9 @@ turn_with-seat-requires-clause-ready g c =
     let i = c.ticket.inside.stripe in
     let x = c.index_mut.result.now in
     let cell = cell_view c.range_cell-cell.result.now in
-    let there = seat-there seat_view r.stripes.items _ r.locks.items r.caller r.spare r.last r.begun p c.pass.view_is i m c.requires.of x cell c.index_mut.ensures.value c.range_cell-cell.ensures in
-    let stand : StandAt m p i cell (seat_view x) = stands-at seat_view r.stripes.items _ r.locks.items r.caller r.spare r.last r.begun p c.pass.view_is i m c.requires.of x cell c.index_mut.ensures.value c.range_cell-cell.ensures in
-    let own : (seat_view x).cell ≡ cell.cell = stands-in seat_view r.stripes.items _ r.locks.items r.caller r.spare r.last r.begun p c.pass.view_is i m c.requires.of x cell c.index_mut.ensures.value c.range_cell-cell.ensures in
+    let there = seat-there seat_view r.stripes.items _ r.locks.items r.caller r.spare r.last r.begun r.bios p c.pass.view_is i m c.requires.of x cell c.index_mut.ensures.value c.range_cell-cell.ensures in
+    let stand : StandAt m p i cell (seat_view x) = stands-at seat_view r.stripes.items _ r.locks.items r.caller r.spare r.last r.begun r.bios p c.pass.view_is i m c.requires.of x cell c.index_mut.ensures.value c.range_cell-cell.ensures in
+    let own : (seat_view x).cell ≡ cell.cell = stands-in seat_view r.stripes.items _ r.locks.items r.caller r.spare r.last r.begun r.bios p c.pass.view_is i m c.requires.of x cell c.index_mut.ensures.value c.range_cell-cell.ensures in
     let claims : seat_claims x ≡ claims_of p = same-at seat_claims r.stripes.items (own_claims r.caller r.spare) i x c.pass.invariant.0 there ∙ ap claims_of c.pass.view_is in
     let ts = c.ticket.inside.seat in
     let t : TicketView = ticket_view i (seat_view ts) (seat_claims ts) in
@@ -121,9 +122,9 @@ returns-clause-of g c =
     let i = c.ticket.inside.stripe in
     let x = c.index_mut.result.now in
     let cell = cell_view c.range_cell-cell.result.now in
-    let there = seat-there seat_view r.stripes.items _ r.locks.items r.caller r.spare r.last r.begun p c.pass.view_is i m c.requires.of x cell c.index_mut.ensures.value c.range_cell-cell.ensures in
-    let stand : StandAt m p i cell (seat_view x) = stands-at seat_view r.stripes.items _ r.locks.items r.caller r.spare r.last r.begun p c.pass.view_is i m c.requires.of x cell c.index_mut.ensures.value c.range_cell-cell.ensures in
-    let own : (seat_view x).cell ≡ cell.cell = stands-in seat_view r.stripes.items _ r.locks.items r.caller r.spare r.last r.begun p c.pass.view_is i m c.requires.of x cell c.index_mut.ensures.value c.range_cell-cell.ensures in
+    let there = seat-there seat_view r.stripes.items _ r.locks.items r.caller r.spare r.last r.begun r.bios p c.pass.view_is i m c.requires.of x cell c.index_mut.ensures.value c.range_cell-cell.ensures in
+    let stand : StandAt m p i cell (seat_view x) = stands-at seat_view r.stripes.items _ r.locks.items r.caller r.spare r.last r.begun r.bios p c.pass.view_is i m c.requires.of x cell c.index_mut.ensures.value c.range_cell-cell.ensures in
+    let own : (seat_view x).cell ≡ cell.cell = stands-in seat_view r.stripes.items _ r.locks.items r.caller r.spare r.last r.begun r.bios p c.pass.view_is i m c.requires.of x cell c.index_mut.ensures.value c.range_cell-cell.ensures in
     let claims : seat_claims x ≡ claims_of p = same-at seat_claims r.stripes.items (own_claims r.caller r.spare) i x c.pass.invariant.0 there ∙ ap claims_of c.pass.view_is in
     let ts = c.ticket.inside.seat in
     let t : TicketView = ticket_view i (seat_view ts) (seat_claims ts) in
@@ -133,7 +134,7 @@ returns-clause-of g c =
     let free : (seat_claims x).held ≡ None = ap (λ (k : ClaimsView). k.held) claims in
     let y = c.turn_with-seat.new.seat in
     let same : (seat_view y).cell ≡ (seat_view x).cell = c.turn_with-seat.ensures.same.0 in
-    let pass_is = seat-set seat_view r.stripes.items _ r.locks.items r.caller r.spare r.last r.begun p c.pass.view_is i y in
+    let pass_is = seat-set seat_view r.stripes.items _ r.locks.items r.caller r.spare r.last r.begun r.bios p c.pass.view_is i y in
     subst (IsPassOf m) (sym pass_is) (of-with_seat p i (seat_view x) (seat_view y) stand.seat_is same m c.requires.of)
 
 pub returns-clause-turned : goal.returns-clause-turned
@@ -144,9 +145,9 @@ returns-clause-turned g c =
     let i = c.ticket.inside.stripe in
     let x = c.index_mut.result.now in
     let cell = cell_view c.range_cell-cell.result.now in
-    let there = seat-there seat_view r.stripes.items _ r.locks.items r.caller r.spare r.last r.begun p c.pass.view_is i m c.requires.of x cell c.index_mut.ensures.value c.range_cell-cell.ensures in
-    let stand : StandAt m p i cell (seat_view x) = stands-at seat_view r.stripes.items _ r.locks.items r.caller r.spare r.last r.begun p c.pass.view_is i m c.requires.of x cell c.index_mut.ensures.value c.range_cell-cell.ensures in
-    let own : (seat_view x).cell ≡ cell.cell = stands-in seat_view r.stripes.items _ r.locks.items r.caller r.spare r.last r.begun p c.pass.view_is i m c.requires.of x cell c.index_mut.ensures.value c.range_cell-cell.ensures in
+    let there = seat-there seat_view r.stripes.items _ r.locks.items r.caller r.spare r.last r.begun r.bios p c.pass.view_is i m c.requires.of x cell c.index_mut.ensures.value c.range_cell-cell.ensures in
+    let stand : StandAt m p i cell (seat_view x) = stands-at seat_view r.stripes.items _ r.locks.items r.caller r.spare r.last r.begun r.bios p c.pass.view_is i m c.requires.of x cell c.index_mut.ensures.value c.range_cell-cell.ensures in
+    let own : (seat_view x).cell ≡ cell.cell = stands-in seat_view r.stripes.items _ r.locks.items r.caller r.spare r.last r.begun r.bios p c.pass.view_is i m c.requires.of x cell c.index_mut.ensures.value c.range_cell-cell.ensures in
     let claims : seat_claims x ≡ claims_of p = same-at seat_claims r.stripes.items (own_claims r.caller r.spare) i x c.pass.invariant.0 there ∙ ap claims_of c.pass.view_is in
     let ts = c.ticket.inside.seat in
     let t : TicketView = ticket_view i (seat_view ts) (seat_claims ts) in
@@ -156,7 +157,7 @@ returns-clause-turned g c =
     let free : (seat_claims x).held ≡ None = ap (λ (k : ClaimsView). k.held) claims in
     let y = c.turn_with-seat.new.seat in
     let same : (seat_view y).cell ≡ (seat_view x).cell = c.turn_with-seat.ensures.same.0 in
-    let pass_is = seat-set seat_view r.stripes.items _ r.locks.items r.caller r.spare r.last r.begun p c.pass.view_is i y in
+    let pass_is = seat-set seat_view r.stripes.items _ r.locks.items r.caller r.spare r.last r.begun r.bios p c.pass.view_is i y in
     let held : c.args.ticket.held ≡ (seat_claims ts).held = ap (λ (v : TicketView). v.held) (sym c.ticket.view_is) in
     let lent : lent_claims p c.args.ticket.held ≡ with_held (seat_claims x) (seat_claims ts).held = (λ j. with_held (sym claims j) (held j)) in
     let at : c.args.ticket.stripe ≡ i = ap (λ (v : TicketView). v.stripe) (sym c.ticket.view_is) in
@@ -182,9 +183,9 @@ returns-clause-ticket g c =
     let i = c.ticket.inside.stripe in
     let x = c.index_mut.result.now in
     let cell = cell_view c.range_cell-cell.result.now in
-    let there = seat-there seat_view r.stripes.items _ r.locks.items r.caller r.spare r.last r.begun p c.pass.view_is i m c.requires.of x cell c.index_mut.ensures.value c.range_cell-cell.ensures in
-    let stand : StandAt m p i cell (seat_view x) = stands-at seat_view r.stripes.items _ r.locks.items r.caller r.spare r.last r.begun p c.pass.view_is i m c.requires.of x cell c.index_mut.ensures.value c.range_cell-cell.ensures in
-    let own : (seat_view x).cell ≡ cell.cell = stands-in seat_view r.stripes.items _ r.locks.items r.caller r.spare r.last r.begun p c.pass.view_is i m c.requires.of x cell c.index_mut.ensures.value c.range_cell-cell.ensures in
+    let there = seat-there seat_view r.stripes.items _ r.locks.items r.caller r.spare r.last r.begun r.bios p c.pass.view_is i m c.requires.of x cell c.index_mut.ensures.value c.range_cell-cell.ensures in
+    let stand : StandAt m p i cell (seat_view x) = stands-at seat_view r.stripes.items _ r.locks.items r.caller r.spare r.last r.begun r.bios p c.pass.view_is i m c.requires.of x cell c.index_mut.ensures.value c.range_cell-cell.ensures in
+    let own : (seat_view x).cell ≡ cell.cell = stands-in seat_view r.stripes.items _ r.locks.items r.caller r.spare r.last r.begun r.bios p c.pass.view_is i m c.requires.of x cell c.index_mut.ensures.value c.range_cell-cell.ensures in
     let claims : seat_claims x ≡ claims_of p = same-at seat_claims r.stripes.items (own_claims r.caller r.spare) i x c.pass.invariant.0 there ∙ ap claims_of c.pass.view_is in
     let ts = c.ticket.inside.seat in
     let t : TicketView = ticket_view i (seat_view ts) (seat_claims ts) in
@@ -194,7 +195,7 @@ returns-clause-ticket g c =
     let free : (seat_claims x).held ≡ None = ap (λ (k : ClaimsView). k.held) claims in
     let y = c.turn_with-seat.new.seat in
     let same : (seat_view y).cell ≡ (seat_view x).cell = c.turn_with-seat.ensures.same.0 in
-    let pass_is = seat-set seat_view r.stripes.items _ r.locks.items r.caller r.spare r.last r.begun p c.pass.view_is i y in
+    let pass_is = seat-set seat_view r.stripes.items _ r.locks.items r.caller r.spare r.last r.begun r.bios p c.pass.view_is i y in
     let back = c.turn_with-seat.result.0 in
     let caller : (seat_claims back).caller ≡ p.caller = ap (λ (k : ClaimsView). k.caller) c.turn_with-seat.ensures.carries ∙ ap (λ (k : ClaimsView). k.caller) claims in
     subst (λ q. IsTicketOf q (ticket_view i (seat_view back) (seat_claims back))) (sym pass_is)
@@ -208,9 +209,9 @@ returns-clause-tickets g c =
     let i = c.ticket.inside.stripe in
     let x = c.index_mut.result.now in
     let cell = cell_view c.range_cell-cell.result.now in
-    let there = seat-there seat_view r.stripes.items _ r.locks.items r.caller r.spare r.last r.begun p c.pass.view_is i m c.requires.of x cell c.index_mut.ensures.value c.range_cell-cell.ensures in
-    let stand : StandAt m p i cell (seat_view x) = stands-at seat_view r.stripes.items _ r.locks.items r.caller r.spare r.last r.begun p c.pass.view_is i m c.requires.of x cell c.index_mut.ensures.value c.range_cell-cell.ensures in
-    let own : (seat_view x).cell ≡ cell.cell = stands-in seat_view r.stripes.items _ r.locks.items r.caller r.spare r.last r.begun p c.pass.view_is i m c.requires.of x cell c.index_mut.ensures.value c.range_cell-cell.ensures in
+    let there = seat-there seat_view r.stripes.items _ r.locks.items r.caller r.spare r.last r.begun r.bios p c.pass.view_is i m c.requires.of x cell c.index_mut.ensures.value c.range_cell-cell.ensures in
+    let stand : StandAt m p i cell (seat_view x) = stands-at seat_view r.stripes.items _ r.locks.items r.caller r.spare r.last r.begun r.bios p c.pass.view_is i m c.requires.of x cell c.index_mut.ensures.value c.range_cell-cell.ensures in
+    let own : (seat_view x).cell ≡ cell.cell = stands-in seat_view r.stripes.items _ r.locks.items r.caller r.spare r.last r.begun r.bios p c.pass.view_is i m c.requires.of x cell c.index_mut.ensures.value c.range_cell-cell.ensures in
     let claims : seat_claims x ≡ claims_of p = same-at seat_claims r.stripes.items (own_claims r.caller r.spare) i x c.pass.invariant.0 there ∙ ap claims_of c.pass.view_is in
     let ts = c.ticket.inside.seat in
     let t : TicketView = ticket_view i (seat_view ts) (seat_claims ts) in
@@ -220,6 +221,6 @@ returns-clause-tickets g c =
     let free : (seat_claims x).held ≡ None = ap (λ (k : ClaimsView). k.held) claims in
     let y = c.turn_with-seat.new.seat in
     let same : (seat_view y).cell ≡ (seat_view x).cell = c.turn_with-seat.ensures.same.0 in
-    let pass_is = seat-set seat_view r.stripes.items _ r.locks.items r.caller r.spare r.last r.begun p c.pass.view_is i y in
+    let pass_is = seat-set seat_view r.stripes.items _ r.locks.items r.caller r.spare r.last r.begun r.bios p c.pass.view_is i y in
     subst (KeepsTickets p) (sym pass_is)
     (tickets-with_seat p i (seat_view x) (seat_view y) stand.seat_is same (turned-begins _ _ _ _ (seat_view x) (seat_view y) c.turn_with-seat.ensures.turned))

@@ -19,12 +19,12 @@ turn-requires-clause-cell g c =
     let x = c.index_mut.result.now in
     let vx : SizeSeat = size_seat (seat_view x) (seat_claims x) in
     let cell = cell_view c.size_cell-cell.result.now in
-    let there = size-there (λ s. size_seat (seat_view s) (seat_claims s)) (map seat_view r.stripes.items) r.sizes.items r.locks.items r.caller r.spare r.last r.begun p c.pass.view_is i m c.requires.of x cell c.index_mut.ensures.value c.size_cell-cell.ensures in
-    let stand : StandAtSize m p i cell vx = sizes-at (λ s. size_seat (seat_view s) (seat_claims s)) (map seat_view r.stripes.items) r.sizes.items r.locks.items r.caller r.spare r.last r.begun p c.pass.view_is i m c.requires.of x cell c.index_mut.ensures.value c.size_cell-cell.ensures in
+    let there = size-there (λ s. size_seat (seat_view s) (seat_claims s)) (map seat_view r.stripes.items) r.sizes.items r.locks.items r.caller r.spare r.last r.begun r.bios p c.pass.view_is i m c.requires.of x cell c.index_mut.ensures.value c.size_cell-cell.ensures in
+    let stand : StandAtSize m p i cell vx = sizes-at (λ s. size_seat (seat_view s) (seat_claims s)) (map seat_view r.stripes.items) r.sizes.items r.locks.items r.caller r.spare r.last r.begun r.bios p c.pass.view_is i m c.requires.of x cell c.index_mut.ensures.value c.size_cell-cell.ensures in
     let stood : StandAtSize m p (size_at m c.args.file) cell vx = subst (λ k. StandAtSize m p k cell vx) c.size-at.ensures.is stand in
     let own : IsSizeSeat r.caller r.spare (seat_claims x) = all-at (λ s. IsSizeSeat r.caller r.spare (seat_claims s)) r.sizes.items i x c.pass.invariant.1 there in
     let claims : seat_claims x ≡ size_claims p.caller p.spare (seat_claims x).rooms = own ∙ ap (λ (v : PassView). size_claims v.caller v.spare (seat_claims x).rooms) c.pass.view_is in
-    sizes-in (λ s. size_seat (seat_view s) (seat_claims s)) (map seat_view r.stripes.items) r.sizes.items r.locks.items r.caller r.spare r.last r.begun p c.pass.view_is i m c.requires.of x cell c.index_mut.ensures.value c.size_cell-cell.ensures
+    sizes-in (λ s. size_seat (seat_view s) (seat_claims s)) (map seat_view r.stripes.items) r.sizes.items r.locks.items r.caller r.spare r.last r.begun r.bios p c.pass.view_is i m c.requires.of x cell c.index_mut.ensures.value c.size_cell-cell.ensures
 
 pub turn-requires-clause-ready : goal.turn-requires-clause-ready
 turn-requires-clause-ready g c =
@@ -35,8 +35,8 @@ turn-requires-clause-ready g c =
     let x = c.index_mut.result.now in
     let vx : SizeSeat = size_seat (seat_view x) (seat_claims x) in
     let cell = cell_view c.size_cell-cell.result.now in
-    let there = size-there (λ s. size_seat (seat_view s) (seat_claims s)) (map seat_view r.stripes.items) r.sizes.items r.locks.items r.caller r.spare r.last r.begun p c.pass.view_is i m c.requires.of x cell c.index_mut.ensures.value c.size_cell-cell.ensures in
-    let stand : StandAtSize m p i cell vx = sizes-at (λ s. size_seat (seat_view s) (seat_claims s)) (map seat_view r.stripes.items) r.sizes.items r.locks.items r.caller r.spare r.last r.begun p c.pass.view_is i m c.requires.of x cell c.index_mut.ensures.value c.size_cell-cell.ensures in
+    let there = size-there (λ s. size_seat (seat_view s) (seat_claims s)) (map seat_view r.stripes.items) r.sizes.items r.locks.items r.caller r.spare r.last r.begun r.bios p c.pass.view_is i m c.requires.of x cell c.index_mut.ensures.value c.size_cell-cell.ensures in
+    let stand : StandAtSize m p i cell vx = sizes-at (λ s. size_seat (seat_view s) (seat_claims s)) (map seat_view r.stripes.items) r.sizes.items r.locks.items r.caller r.spare r.last r.begun r.bios p c.pass.view_is i m c.requires.of x cell c.index_mut.ensures.value c.size_cell-cell.ensures in
     let stood : StandAtSize m p (size_at m c.args.file) cell vx = subst (λ k. StandAtSize m p k cell vx) c.size-at.ensures.is stand in
     let own : IsSizeSeat r.caller r.spare (seat_claims x) = all-at (λ s. IsSizeSeat r.caller r.spare (seat_claims s)) r.sizes.items i x c.pass.invariant.1 there in
     let claims : seat_claims x ≡ size_claims p.caller p.spare (seat_claims x).rooms = own ∙ ap (λ (v : PassView). size_claims v.caller v.spare (seat_claims x).rooms) c.pass.view_is in
@@ -51,8 +51,8 @@ invariant_of-pass g c =
     let x = c.index_mut.result.now in
     let vx : SizeSeat = size_seat (seat_view x) (seat_claims x) in
     let cell = cell_view c.size_cell-cell.result.now in
-    let there = size-there (λ s. size_seat (seat_view s) (seat_claims s)) (map seat_view r.stripes.items) r.sizes.items r.locks.items r.caller r.spare r.last r.begun p c.pass.view_is i m c.requires.of x cell c.index_mut.ensures.value c.size_cell-cell.ensures in
-    let stand : StandAtSize m p i cell vx = sizes-at (λ s. size_seat (seat_view s) (seat_claims s)) (map seat_view r.stripes.items) r.sizes.items r.locks.items r.caller r.spare r.last r.begun p c.pass.view_is i m c.requires.of x cell c.index_mut.ensures.value c.size_cell-cell.ensures in
+    let there = size-there (λ s. size_seat (seat_view s) (seat_claims s)) (map seat_view r.stripes.items) r.sizes.items r.locks.items r.caller r.spare r.last r.begun r.bios p c.pass.view_is i m c.requires.of x cell c.index_mut.ensures.value c.size_cell-cell.ensures in
+    let stand : StandAtSize m p i cell vx = sizes-at (λ s. size_seat (seat_view s) (seat_claims s)) (map seat_view r.stripes.items) r.sizes.items r.locks.items r.caller r.spare r.last r.begun r.bios p c.pass.view_is i m c.requires.of x cell c.index_mut.ensures.value c.size_cell-cell.ensures in
     let stood : StandAtSize m p (size_at m c.args.file) cell vx = subst (λ k. StandAtSize m p k cell vx) c.size-at.ensures.is stand in
     let own : IsSizeSeat r.caller r.spare (seat_claims x) = all-at (λ s. IsSizeSeat r.caller r.spare (seat_claims s)) r.sizes.items i x c.pass.invariant.1 there in
     let claims : seat_claims x ≡ size_claims p.caller p.spare (seat_claims x).rooms = own ∙ ap (λ (v : PassView). size_claims v.caller v.spare (seat_claims x).rooms) c.pass.view_is in
@@ -62,7 +62,7 @@ invariant_of-pass g c =
     let same : without_rooms (seat_claims y) ≡ without_rooms (seat_claims x) = c.requires.leaves cell.opening _ t.value t.next (seat_claims x) (seat_claims y) c.turn.new.change c.turn.result t.entry t.done in
     let left : IsSizeSeat r.caller r.spare (seat_claims y) = size-left r.caller r.spare (seat_claims x) (seat_claims y) own same in
     let after : seat_claims y ≡ size_claims p.caller p.spare (seat_claims y).rooms = left ∙ ap (λ (v : PassView). size_claims v.caller v.spare (seat_claims y).rooms) c.pass.view_is in
-    let pass_is = size-set (λ s. size_seat (seat_view s) (seat_claims s)) (map seat_view r.stripes.items) r.sizes.items r.locks.items r.caller r.spare r.last r.begun p c.pass.view_is i y in
+    let pass_is = size-set (λ s. size_seat (seat_view s) (seat_claims s)) (map seat_view r.stripes.items) r.sizes.items r.locks.items r.caller r.spare r.last r.begun r.bios p c.pass.view_is i y in
     (c.pass.invariant.0, All-set (λ s. IsSizeSeat r.caller r.spare (seat_claims s)) r.sizes.items i y left c.pass.invariant.1)
 
 pub returns-clause-of : goal.returns-clause-of
@@ -74,8 +74,8 @@ returns-clause-of g c =
     let x = c.index_mut.result.now in
     let vx : SizeSeat = size_seat (seat_view x) (seat_claims x) in
     let cell = cell_view c.size_cell-cell.result.now in
-    let there = size-there (λ s. size_seat (seat_view s) (seat_claims s)) (map seat_view r.stripes.items) r.sizes.items r.locks.items r.caller r.spare r.last r.begun p c.pass.view_is i m c.requires.of x cell c.index_mut.ensures.value c.size_cell-cell.ensures in
-    let stand : StandAtSize m p i cell vx = sizes-at (λ s. size_seat (seat_view s) (seat_claims s)) (map seat_view r.stripes.items) r.sizes.items r.locks.items r.caller r.spare r.last r.begun p c.pass.view_is i m c.requires.of x cell c.index_mut.ensures.value c.size_cell-cell.ensures in
+    let there = size-there (λ s. size_seat (seat_view s) (seat_claims s)) (map seat_view r.stripes.items) r.sizes.items r.locks.items r.caller r.spare r.last r.begun r.bios p c.pass.view_is i m c.requires.of x cell c.index_mut.ensures.value c.size_cell-cell.ensures in
+    let stand : StandAtSize m p i cell vx = sizes-at (λ s. size_seat (seat_view s) (seat_claims s)) (map seat_view r.stripes.items) r.sizes.items r.locks.items r.caller r.spare r.last r.begun r.bios p c.pass.view_is i m c.requires.of x cell c.index_mut.ensures.value c.size_cell-cell.ensures in
     let stood : StandAtSize m p (size_at m c.args.file) cell vx = subst (λ k. StandAtSize m p k cell vx) c.size-at.ensures.is stand in
     let own : IsSizeSeat r.caller r.spare (seat_claims x) = all-at (λ s. IsSizeSeat r.caller r.spare (seat_claims s)) r.sizes.items i x c.pass.invariant.1 there in
     let claims : seat_claims x ≡ size_claims p.caller p.spare (seat_claims x).rooms = own ∙ ap (λ (v : PassView). size_claims v.caller v.spare (seat_claims x).rooms) c.pass.view_is in
@@ -85,7 +85,7 @@ returns-clause-of g c =
     let same : without_rooms (seat_claims y) ≡ without_rooms (seat_claims x) = c.requires.leaves cell.opening _ t.value t.next (seat_claims x) (seat_claims y) c.turn.new.change c.turn.result t.entry t.done in
     let left : IsSizeSeat r.caller r.spare (seat_claims y) = size-left r.caller r.spare (seat_claims x) (seat_claims y) own same in
     let after : seat_claims y ≡ size_claims p.caller p.spare (seat_claims y).rooms = left ∙ ap (λ (v : PassView). size_claims v.caller v.spare (seat_claims y).rooms) c.pass.view_is in
-    let pass_is = size-set (λ s. size_seat (seat_view s) (seat_claims s)) (map seat_view r.stripes.items) r.sizes.items r.locks.items r.caller r.spare r.last r.begun p c.pass.view_is i y in
+    let pass_is = size-set (λ s. size_seat (seat_view s) (seat_claims s)) (map seat_view r.stripes.items) r.sizes.items r.locks.items r.caller r.spare r.last r.begun r.bios p c.pass.view_is i y in
     subst (IsPassOf m) (sym pass_is) (of-with_size m p i vx vy c.requires.of stand.seat_is c.turn.ensures.same.0)
 
 pub returns-clause-turned : goal.returns-clause-turned
@@ -97,8 +97,8 @@ returns-clause-turned g c =
     let x = c.index_mut.result.now in
     let vx : SizeSeat = size_seat (seat_view x) (seat_claims x) in
     let cell = cell_view c.size_cell-cell.result.now in
-    let there = size-there (λ s. size_seat (seat_view s) (seat_claims s)) (map seat_view r.stripes.items) r.sizes.items r.locks.items r.caller r.spare r.last r.begun p c.pass.view_is i m c.requires.of x cell c.index_mut.ensures.value c.size_cell-cell.ensures in
-    let stand : StandAtSize m p i cell vx = sizes-at (λ s. size_seat (seat_view s) (seat_claims s)) (map seat_view r.stripes.items) r.sizes.items r.locks.items r.caller r.spare r.last r.begun p c.pass.view_is i m c.requires.of x cell c.index_mut.ensures.value c.size_cell-cell.ensures in
+    let there = size-there (λ s. size_seat (seat_view s) (seat_claims s)) (map seat_view r.stripes.items) r.sizes.items r.locks.items r.caller r.spare r.last r.begun r.bios p c.pass.view_is i m c.requires.of x cell c.index_mut.ensures.value c.size_cell-cell.ensures in
+    let stand : StandAtSize m p i cell vx = sizes-at (λ s. size_seat (seat_view s) (seat_claims s)) (map seat_view r.stripes.items) r.sizes.items r.locks.items r.caller r.spare r.last r.begun r.bios p c.pass.view_is i m c.requires.of x cell c.index_mut.ensures.value c.size_cell-cell.ensures in
     let stood : StandAtSize m p (size_at m c.args.file) cell vx = subst (λ k. StandAtSize m p k cell vx) c.size-at.ensures.is stand in
     let own : IsSizeSeat r.caller r.spare (seat_claims x) = all-at (λ s. IsSizeSeat r.caller r.spare (seat_claims s)) r.sizes.items i x c.pass.invariant.1 there in
     let claims : seat_claims x ≡ size_claims p.caller p.spare (seat_claims x).rooms = own ∙ ap (λ (v : PassView). size_claims v.caller v.spare (seat_claims x).rooms) c.pass.view_is in
@@ -108,7 +108,7 @@ returns-clause-turned g c =
     let same : without_rooms (seat_claims y) ≡ without_rooms (seat_claims x) = c.requires.leaves cell.opening _ t.value t.next (seat_claims x) (seat_claims y) c.turn.new.change c.turn.result t.entry t.done in
     let left : IsSizeSeat r.caller r.spare (seat_claims y) = size-left r.caller r.spare (seat_claims x) (seat_claims y) own same in
     let after : seat_claims y ≡ size_claims p.caller p.spare (seat_claims y).rooms = left ∙ ap (λ (v : PassView). size_claims v.caller v.spare (seat_claims y).rooms) c.pass.view_is in
-    let pass_is = size-set (λ s. size_seat (seat_view s) (seat_claims s)) (map seat_view r.stripes.items) r.sizes.items r.locks.items r.caller r.spare r.last r.begun p c.pass.view_is i y in
+    let pass_is = size-set (λ s. size_seat (seat_view s) (seat_claims s)) (map seat_view r.stripes.items) r.sizes.items r.locks.items r.caller r.spare r.last r.begun r.bios p c.pass.view_is i y in
     record {
       cell = cell;
       before = vx;
@@ -130,8 +130,8 @@ returns-clause-tickets g c =
     let x = c.index_mut.result.now in
     let vx : SizeSeat = size_seat (seat_view x) (seat_claims x) in
     let cell = cell_view c.size_cell-cell.result.now in
-    let there = size-there (λ s. size_seat (seat_view s) (seat_claims s)) (map seat_view r.stripes.items) r.sizes.items r.locks.items r.caller r.spare r.last r.begun p c.pass.view_is i m c.requires.of x cell c.index_mut.ensures.value c.size_cell-cell.ensures in
-    let stand : StandAtSize m p i cell vx = sizes-at (λ s. size_seat (seat_view s) (seat_claims s)) (map seat_view r.stripes.items) r.sizes.items r.locks.items r.caller r.spare r.last r.begun p c.pass.view_is i m c.requires.of x cell c.index_mut.ensures.value c.size_cell-cell.ensures in
+    let there = size-there (λ s. size_seat (seat_view s) (seat_claims s)) (map seat_view r.stripes.items) r.sizes.items r.locks.items r.caller r.spare r.last r.begun r.bios p c.pass.view_is i m c.requires.of x cell c.index_mut.ensures.value c.size_cell-cell.ensures in
+    let stand : StandAtSize m p i cell vx = sizes-at (λ s. size_seat (seat_view s) (seat_claims s)) (map seat_view r.stripes.items) r.sizes.items r.locks.items r.caller r.spare r.last r.begun r.bios p c.pass.view_is i m c.requires.of x cell c.index_mut.ensures.value c.size_cell-cell.ensures in
     let stood : StandAtSize m p (size_at m c.args.file) cell vx = subst (λ k. StandAtSize m p k cell vx) c.size-at.ensures.is stand in
     let own : IsSizeSeat r.caller r.spare (seat_claims x) = all-at (λ s. IsSizeSeat r.caller r.spare (seat_claims s)) r.sizes.items i x c.pass.invariant.1 there in
     let claims : seat_claims x ≡ size_claims p.caller p.spare (seat_claims x).rooms = own ∙ ap (λ (v : PassView). size_claims v.caller v.spare (seat_claims x).rooms) c.pass.view_is in
@@ -141,5 +141,5 @@ returns-clause-tickets g c =
     let same : without_rooms (seat_claims y) ≡ without_rooms (seat_claims x) = c.requires.leaves cell.opening _ t.value t.next (seat_claims x) (seat_claims y) c.turn.new.change c.turn.result t.entry t.done in
     let left : IsSizeSeat r.caller r.spare (seat_claims y) = size-left r.caller r.spare (seat_claims x) (seat_claims y) own same in
     let after : seat_claims y ≡ size_claims p.caller p.spare (seat_claims y).rooms = left ∙ ap (λ (v : PassView). size_claims v.caller v.spare (seat_claims y).rooms) c.pass.view_is in
-    let pass_is = size-set (λ s. size_seat (seat_view s) (seat_claims s)) (map seat_view r.stripes.items) r.sizes.items r.locks.items r.caller r.spare r.last r.begun p c.pass.view_is i y in
+    let pass_is = size-set (λ s. size_seat (seat_view s) (seat_claims s)) (map seat_view r.stripes.items) r.sizes.items r.locks.items r.caller r.spare r.last r.begun r.bios p c.pass.view_is i y in
     subst (KeepsTickets p) (sym pass_is) (tickets-with_size p i vy)

@@ -2,6 +2,7 @@ use Rattle.std.proofs.Common.{None, ◌≡◌, ◌-◌, ◌<◌, map, ap, ◌∙
 use Rattle.std.specs.Prelude.{All}
 use Rattle.turn_cell.specs.Seats.{seat_claims, seat_view}
 use Rattle.mount_parts.specs.MountView.{MountView}
+use Rattle.mini_fs.specs.BioSeats.{given_bios}
 use Rattle.mini_fs.specs.PassView.{IsPassOf, PassView, pass_view, size_seat}
 use Rattle.mini_fs.specs.Splits.{IsHome, SplitOff, given_share, given_size, given_stripe, kept_pass}
 use Rattle.mini_fs.specs.Tickets.{KeepsTickets}
@@ -52,6 +53,7 @@ invariant_of-result c =
     let stripes = c.split_stripes-stripes in
     let sizes = c.split_sizes-sizes in
     let locks = c.split_locks-locks in
+    let bios = c.split-bios in
     let spare : r.spare ≡ p.spare = ap (λ (v : PassView). v.spare) c.pass.view_is in
     let next = c.lowest-caller.ensures in
     let caller : c.lowest-caller.result ≡ 4294967296 - p.spare = next ∙ ap (λ n. 4294967296 - n) spare in
@@ -65,6 +67,7 @@ invariant_of-pass c =
     let stripes = c.split_stripes-stripes in
     let sizes = c.split_sizes-sizes in
     let locks = c.split_locks-locks in
+    let bios = c.split-bios in
     (stripes-left seat_view seat_claims r.stripes.items stripes.new.seats.items r.caller r.spare stripes.ensures.kept c.pass.invariant.0, sizes-left seat_view seat_claims r.sizes.items sizes.new.seats.items r.caller r.spare sizes.ensures.kept c.pass.invariant.1)
 
 pub returns-clause-of : goal.returns-clause-of
@@ -75,8 +78,9 @@ returns-clause-of c =
     let stripes = c.split_stripes-stripes in
     let sizes = c.split_sizes-sizes in
     let locks = c.split_locks-locks in
-    let pass_is : pass_view (map seat_view stripes.new.seats.items) (map (λ s. size_seat (seat_view s) (seat_claims s)) sizes.new.seats.items) locks.new.seats.items r.caller (r.spare - 1) r.last r.begun ≡ kept_pass p =
-    (λ j. pass_view (stripes-kept seat_view seat_claims r.stripes.items stripes.new.seats.items stripes.ensures.kept j) (sizes-kept seat_view seat_claims r.sizes.items sizes.new.seats.items sizes.ensures.kept j) (locks.ensures.kept j) r.caller (r.spare - 1) r.last r.begun) ∙ ap kept_pass c.pass.view_is in
+    let bios = c.split-bios in
+    let pass_is : pass_view (map seat_view stripes.new.seats.items) (map (λ s. size_seat (seat_view s) (seat_claims s)) sizes.new.seats.items) locks.new.seats.items r.caller (r.spare - 1) r.last r.begun bios.new.self ≡ kept_pass p =
+    (λ j. pass_view (stripes-kept seat_view seat_claims r.stripes.items stripes.new.seats.items stripes.ensures.kept j) (sizes-kept seat_view seat_claims r.sizes.items sizes.new.seats.items sizes.ensures.kept j) (locks.ensures.kept j) r.caller (r.spare - 1) r.last r.begun (bios.ensures.kept j)) ∙ ap kept_pass c.pass.view_is in
     subst (IsPassOf m) (sym pass_is) (of-kept m p c.requires.of)
 
 pub returns-clause-ok : goal.returns-clause-ok
@@ -87,8 +91,9 @@ returns-clause-ok c =
     let stripes = c.split_stripes-stripes in
     let sizes = c.split_sizes-sizes in
     let locks = c.split_locks-locks in
-    let pass_is : pass_view (map seat_view stripes.new.seats.items) (map (λ s. size_seat (seat_view s) (seat_claims s)) sizes.new.seats.items) locks.new.seats.items r.caller (r.spare - 1) r.last r.begun ≡ kept_pass p =
-    (λ j. pass_view (stripes-kept seat_view seat_claims r.stripes.items stripes.new.seats.items stripes.ensures.kept j) (sizes-kept seat_view seat_claims r.sizes.items sizes.new.seats.items sizes.ensures.kept j) (locks.ensures.kept j) r.caller (r.spare - 1) r.last r.begun) ∙ ap kept_pass c.pass.view_is in
+    let bios = c.split-bios in
+    let pass_is : pass_view (map seat_view stripes.new.seats.items) (map (λ s. size_seat (seat_view s) (seat_claims s)) sizes.new.seats.items) locks.new.seats.items r.caller (r.spare - 1) r.last r.begun bios.new.self ≡ kept_pass p =
+    (λ j. pass_view (stripes-kept seat_view seat_claims r.stripes.items stripes.new.seats.items stripes.ensures.kept j) (sizes-kept seat_view seat_claims r.sizes.items sizes.new.seats.items sizes.ensures.kept j) (locks.ensures.kept j) r.caller (r.spare - 1) r.last r.begun (bios.ensures.kept j)) ∙ ap kept_pass c.pass.view_is in
     let spare : r.spare ≡ p.spare = ap (λ (v : PassView). v.spare) c.pass.view_is in
     let next = c.lowest-caller.ensures in
     let caller : c.lowest-caller.result ≡ 4294967296 - p.spare = next ∙ ap (λ n. 4294967296 - n) spare in
@@ -101,6 +106,7 @@ returns-clause-ok c =
       spare = refl;
       last = ap (λ (v : PassView). v.last) c.pass.view_is;
       begun = refl;
+      bios = bios.ensures.given ∙ ap (λ (v : PassView). given_bios v.bios) c.pass.view_is;
     }
 
 pub returns-clause-made : goal.returns-clause-made
@@ -111,12 +117,13 @@ returns-clause-made c =
     let stripes = c.split_stripes-stripes in
     let sizes = c.split_sizes-sizes in
     let locks = c.split_locks-locks in
-    let pass_is : pass_view (map seat_view stripes.new.seats.items) (map (λ s. size_seat (seat_view s) (seat_claims s)) sizes.new.seats.items) locks.new.seats.items r.caller (r.spare - 1) r.last r.begun ≡ kept_pass p =
-    (λ j. pass_view (stripes-kept seat_view seat_claims r.stripes.items stripes.new.seats.items stripes.ensures.kept j) (sizes-kept seat_view seat_claims r.sizes.items sizes.new.seats.items sizes.ensures.kept j) (locks.ensures.kept j) r.caller (r.spare - 1) r.last r.begun) ∙ ap kept_pass c.pass.view_is in
+    let bios = c.split-bios in
+    let pass_is : pass_view (map seat_view stripes.new.seats.items) (map (λ s. size_seat (seat_view s) (seat_claims s)) sizes.new.seats.items) locks.new.seats.items r.caller (r.spare - 1) r.last r.begun bios.new.self ≡ kept_pass p =
+    (λ j. pass_view (stripes-kept seat_view seat_claims r.stripes.items stripes.new.seats.items stripes.ensures.kept j) (sizes-kept seat_view seat_claims r.sizes.items sizes.new.seats.items sizes.ensures.kept j) (locks.ensures.kept j) r.caller (r.spare - 1) r.last r.begun (bios.ensures.kept j)) ∙ ap kept_pass c.pass.view_is in
     let spare : r.spare ≡ p.spare = ap (λ (v : PassView). v.spare) c.pass.view_is in
     let next = c.lowest-caller.ensures in
     let caller : c.lowest-caller.result ≡ 4294967296 - p.spare = next ∙ ap (λ n. 4294967296 - n) spare in
-    let made : SplitOff m p (kept_pass p) (pass_view (map seat_view stripes.result.items) (map (λ s. size_seat (seat_view s) (seat_claims s)) sizes.result.items) locks.result.items c.lowest-caller.result 0 r.last None) = record {
+    let made : SplitOff m p (kept_pass p) (pass_view (map seat_view stripes.result.items) (map (λ s. size_seat (seat_view s) (seat_claims s)) sizes.result.items) locks.result.items c.lowest-caller.result 0 r.last None bios.result) = record {
       left = refl;
       stripes = stripes-given seat_view seat_claims r.stripes.items stripes.result.items stripes.ensures.made ∙ ap (λ (v : PassView). map given_stripe v.stripes) c.pass.view_is;
       sizes = sizes-given seat_view seat_claims r.sizes.items sizes.result.items sizes.ensures.made ∙ ap (λ (v : PassView). map given_size v.sizes) c.pass.view_is;
@@ -125,6 +132,7 @@ returns-clause-made c =
       spare = refl;
       last = ap (λ (v : PassView). v.last) c.pass.view_is;
       begun = refl;
+      bios = bios.ensures.given ∙ ap (λ (v : PassView). given_bios v.bios) c.pass.view_is;
     } in
     of-new m p (kept_pass p) _ c.requires.of made
 
@@ -136,6 +144,7 @@ returns-clause-tickets c =
     let stripes = c.split_stripes-stripes in
     let sizes = c.split_sizes-sizes in
     let locks = c.split_locks-locks in
-    let pass_is : pass_view (map seat_view stripes.new.seats.items) (map (λ s. size_seat (seat_view s) (seat_claims s)) sizes.new.seats.items) locks.new.seats.items r.caller (r.spare - 1) r.last r.begun ≡ kept_pass p =
-    (λ j. pass_view (stripes-kept seat_view seat_claims r.stripes.items stripes.new.seats.items stripes.ensures.kept j) (sizes-kept seat_view seat_claims r.sizes.items sizes.new.seats.items sizes.ensures.kept j) (locks.ensures.kept j) r.caller (r.spare - 1) r.last r.begun) ∙ ap kept_pass c.pass.view_is in
+    let bios = c.split-bios in
+    let pass_is : pass_view (map seat_view stripes.new.seats.items) (map (λ s. size_seat (seat_view s) (seat_claims s)) sizes.new.seats.items) locks.new.seats.items r.caller (r.spare - 1) r.last r.begun bios.new.self ≡ kept_pass p =
+    (λ j. pass_view (stripes-kept seat_view seat_claims r.stripes.items stripes.new.seats.items stripes.ensures.kept j) (sizes-kept seat_view seat_claims r.sizes.items sizes.new.seats.items sizes.ensures.kept j) (locks.ensures.kept j) r.caller (r.spare - 1) r.last r.begun (bios.ensures.kept j)) ∙ ap kept_pass c.pass.view_is in
     subst (KeepsTickets p) (sym pass_is) (tickets-kept p)

@@ -40,6 +40,8 @@ returns-clause-started c =
       spare = refl;
       last = refl;
       begun = refl;
+      capacity = c.in_ok-queue.ensures.capacity;
+      bios = c.in_ok-queue.ensures.seats;
     }
 
 pub returns-clause-of : goal.returns-clause-of
@@ -48,4 +50,4 @@ returns-clause-of c =
     let e = c.in_ok-laid.ensures in
     firsts-of _ _ (e.stripe_seats ∙ sym (map-map is_first_at (λ k. cell_view (padded_value k)) laid.stripes.items))
     (sizes-seen seat_view seat_claims laid.size_seats.items (map (λ k. cell_view (padded_value k)) laid.sizes.items) (e.size_seats ∙ sym (map-map is_first_at (λ k. cell_view (padded_value k)) laid.sizes.items)) e.size_claims)
-    e.lock_seats
+    e.lock_seats c.in_ok-queue.ensures.seats
