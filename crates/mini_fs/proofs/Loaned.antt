@@ -1,5 +1,5 @@
 -- What a loan leaves on a ticket, and when what was lent may come back on it.
-use Rattle.std.proofs.Common.{◌≡◌, ℕ, ◌+◌, ◌-◌, ◌<◌, ◌≤◌, List, [], ◌∷◌, length, map, drop, refl, sym, ap, ◌∙◌, subst, arith, length-drop}
+use Rattle.std.proofs.Common.{◌≡◌, ℕ, ◌-◌, ◌<◌, ◌≤◌, List, [], ◌∷◌, length, map, drop, refl, sym, ap, ◌∙◌, subst, arith, length-drop}
 use Rattle.std.specs.Prelude.{◌/◌, Bool, true, false, if◌then◌else◌, Option, Some, Result, Ok, Err, slice_get, nat_lt, IfOk}
 use Rattle.std.proofs.lemmas.Bool.{false≢true}
 use Rattle.iob_base.proofs.PartLemmas.{pages_of-bare}

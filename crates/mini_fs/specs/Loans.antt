@@ -1,5 +1,5 @@
 -- What a ticket carries, and what the turns did that lend on one and take back from one.
-use Rattle.std.specs.Prelude.{◌≡◌, ℕ, Option, Some, None, Result, Ok, Err, List, length, map, slice_get, MatchResult}
+use Rattle.std.specs.Prelude.{◌≡◌, ℕ, Option, Some, None, Result, List, length, map, slice_get, MatchResult}
 use Rattle.bio_pages.specs.declared.bio.Bio.{Bio}
 use Rattle.iob_base.specs.Parting.{pages_of}
 use Rattle.iob_base.specs.declared.part.Part.{Part}
