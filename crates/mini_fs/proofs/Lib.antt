@@ -15,3 +15,4 @@ pub mod ShelfLists
 pub mod CrossingRules
 pub mod BioCrossing
 pub mod MountCrossing
+pub mod Unmounting

@@ -11,3 +11,4 @@ pub mod Joins
 pub mod Acts
 pub mod Starts
 pub mod Loans
+pub mod Wholes

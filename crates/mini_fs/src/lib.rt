@@ -13,6 +13,7 @@
 //! - `shelves`, `run_all`: the shelves of a pass, and how it runs its bios by way of the mount's queue
 //! - `hold`, `locks`: a class of a file's lock, and how a pass takes and leaves it
 //! - `crossing`: a mount is shared by threads
+//! - `unmount`: how a mount ends
 #![tactic(auto)]
 
 mod acts;
@@ -33,6 +34,7 @@ mod split;
 mod start;
 mod ticket;
 mod turn;
+mod unmount;
 
 pub use acts::{acts_add_up, acts_are_seen};
 pub use begun::Begun;
