@@ -3,6 +3,9 @@ pub mod Seats
 pub mod Loans
 pub mod Firsts
 pub mod Tries
+mod Telling
+mod PoolTells
+mod LaneTells
 pub mod SizeSeats
 pub mod Through
 pub mod Splitting

@@ -12,3 +12,6 @@ pub mod Acts
 pub mod Starts
 pub mod Loans
 pub mod Wholes
+pub mod PageTurns
+pub mod DirectTurns
+pub mod DueTurns

@@ -7,6 +7,7 @@
 //! - `mount`, `start`: the mount, and how it begins
 //! - `pass`, `begun`: a caller's seats and numbers, and the mapping that it began
 //! - `turn`, `size`: one turn of a pass, at a stripe and at a size
+//! - `page_events`, `direct_events`, `dax_events`, `due_events`: the events of a range, each as one turn of a pass
 //! - `split`, `join`: how a pass is split for another caller, and how two passes are joined
 //! - `ticket`: the seat that carries a loan, and the turns that lend and take back
 //! - `lends`, `returns`: the events that lend on a ticket and take back from one
@@ -19,12 +20,16 @@
 mod acts;
 mod begun;
 mod crossing;
+mod dax_events;
+mod direct_events;
+mod due_events;
 mod hold;
 mod join;
 mod lends;
 mod locks;
 mod mount;
 mod open_bios;
+mod page_events;
 mod pass;
 mod returns;
 mod run_all;

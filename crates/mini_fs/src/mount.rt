@@ -55,6 +55,8 @@ impl Model for Mount {
 
 impl Mount {
     ghost use Rattle.mount_parts.specs.MountView.{HasBlock, HasFile, IsLaidOut, file_at, stripe_at};
+    ghost use Rattle.space_pool.specs.Seats.{pool_cell};
+    ghost use Rattle.mini_fs.specs.PageTurns.{block_with};
     ghost use Rattle.mini_fs.specs.SizeTurns.{HasSize, size_at};
 
     /// Where the parts of every mount lie. It does nothing.
@@ -98,6 +100,20 @@ impl Mount {
     /// What the calls above make their lists with.
     pub fn allocator(&self) -> Global {
         self.alloc
+    }
+
+    // The block of a file that has the byte in this place.
+    pub(crate) fn block_with(&self, place: u64) -> u64
+        ensures { result ≡ block_with self.now place }
+    {
+        place / u64::from(self.geometry.block_size())
+    }
+
+    // The pool that all stripes have their seats at.
+    pub(crate) fn space(&self) -> &SpacePool
+        ensures { pool_cell result.now ≡ self.now.pool }
+    {
+        &self.pool
     }
 
     // The stripe of a block, among all stripes.
