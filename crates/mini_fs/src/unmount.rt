@@ -34,6 +34,7 @@ impl Mount {
             locks,
             pool,
             idle,
+            queue,
         } = self;
         let Pass {
             stripes: seats,
@@ -43,8 +44,11 @@ impl Mount {
             spare: _,
             last: _,
             begun: _,
+            bios,
         } = pass;
         drop(lock_seats);
+        drop(bios);
+        drop(queue);
         let parts = Parts {
             geometry,
             files,

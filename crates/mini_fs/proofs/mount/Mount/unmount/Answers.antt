@@ -7,7 +7,7 @@ use Rattle.mount_parts.specs.MountView.{MountView}
 use Rattle.mini_fs.specs.PassView.{PassView, own_claims, size_seat}
 use Rattle.mini_fs.specs.Wholes.{seat_of_size}
 use Rattle.mini_fs.proofs.Through.{map-map}
-use Rattle.mini_fs.proofs.Unmounting.{all-more, all-seen, same-cells, unmounts-alike}
+use Rattle.mini_fs.proofs.Unmounting.{all-more, all-seen, same-cells, unmounts-alike, with-queue}
 use Rattle.mini_fs.proofs.mount.Mount.unmount.Goals as goal
 
 pub take_apart-requires-clause-cells : goal.take_apart-requires-clause-cells
@@ -15,6 +15,9 @@ take_apart-requires-clause-cells c =
     let r = c.self.inside in
     let p = c.pass.inside in
     same-cells seat_view (λ v. v.cell) (λ k. cell_view (padded_value k)) (λ k. k.cell) p.stripes.items _ r.stripes.items _ (ap (λ (v : PassView). v.stripes) c.pass.view_is) (ap (λ (v : MountView). v.stripes) c.self.view_is) c.requires.of.stripes
+
+pub take_apart-requires-clause-laid : goal.take_apart-requires-clause-laid
+take_apart-requires-clause-laid c = (c.self.inside.queue, c.self.invariant)
 
 pub take_apart-requires-clause-whole : goal.take_apart-requires-clause-whole
 take_apart-requires-clause-whole c =
@@ -42,5 +45,5 @@ returns c =
     let p = c.pass.inside in
     record {
       ok = unmounts-alike _ c.args.self (map seat_view p.stripes.items) c.args.pass.stripes (map seat_view p.sizes.items) (map seat_of_size c.args.pass.sizes) c.take_apart.result c.self.view_is (ap (λ (v : PassView). v.stripes) c.pass.view_is)
-          (sym (map-map seat_of_size (λ s. size_seat (seat_view s) (seat_claims s)) p.sizes.items) ∙ ap (λ (v : PassView). map seat_of_size v.sizes) c.pass.view_is) c.take_apart.ensures;
+          (sym (map-map seat_of_size (λ s. size_seat (seat_view s) (seat_claims s)) p.sizes.items) ∙ ap (λ (v : PassView). map seat_of_size v.sizes) c.pass.view_is) (with-queue _ c.take_apart.result c.self.inside.queue c.take_apart.ensures);
     }
