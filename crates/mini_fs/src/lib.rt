@@ -13,7 +13,7 @@
 //! - `lends`, `returns`: the events that lend on a ticket and take back from one
 //! - `shelves`, `run_all`: the shelves of a pass, and how it runs its bios by way of the mount's queue
 //! - `hold`, `locks`: a class of a file's lock, and how a pass takes and leaves it
-//! - `crossing`: a mount is shared by threads
+//! - `crossing`: threads share a mount and its queues, and what a caller has goes from thread to thread
 //! - `unmount`: how a mount ends
 #![tactic(auto)]
 
@@ -43,7 +43,10 @@ mod unmount;
 
 pub use acts::{acts_add_up, acts_are_seen};
 pub use begun::Begun;
-pub use crossing::mounts_are_shared;
+pub use crossing::{
+    bios_cross, mounts_are_shared, passes_cross, queue_passes_cross, queues_are_shared,
+    sent_bios_cross, shelf_seats_cross, shelves_cross, tickets_cross,
+};
 pub use hold::{CachedHold, DirectHold, ExclusiveHold};
 pub use locks::WordBusy;
 pub use mount::Mount;

@@ -1,0 +1,6 @@
+use Rattle.mini_fs.proofs.MountCrossing.{Pass-send}
+use Rattle.mini_fs.proofs.CrossingRules.{crossing_rules}
+use Rattle.mini_fs.proofs.crossing.passes_cross.Goals as goal
+
+pub crosses-requires-send-T : goal.crosses-requires-send-T
+crosses-requires-send-T c κs = search (crossing_rules, Pass-send) depth 80 fits 10000

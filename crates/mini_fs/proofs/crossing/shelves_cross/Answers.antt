@@ -1,0 +1,7 @@
+use Rattle.mini_fs.proofs.BioCrossing.{BioShelf-send, BioShelf-sync}
+use Rattle.mini_fs.proofs.MountCrossing.{Ticket-send}
+use Rattle.mini_fs.proofs.CrossingRules.{crossing_rules}
+use Rattle.mini_fs.proofs.crossing.shelves_cross.Goals as goal
+
+pub crosses-requires-send-T : goal.crosses-requires-send-T
+crosses-requires-send-T c κs = search (crossing_rules, Ticket-send, BioShelf-send, BioShelf-sync) depth 80 fits 10000
