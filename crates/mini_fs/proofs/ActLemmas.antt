@@ -21,7 +21,8 @@ use Rattle.mini_fs.specs.Acts.Act.{Turn, SizeTurn, Busy, Open, Close, Take, Refu
 use Rattle.mini_fs.specs.Holds.{BringsBack, HoldView, IsHoldOf, TakesOut}
 use Rattle.mini_fs.specs.PassView.{PassView, share_at, share_in}
 use Rattle.mini_fs.specs.SizeTurns.{TurnsAtSize}
-use Rattle.mini_fs.specs.Tickets.{ClosedTicket, IsTicketOf, Opened, TicketView, with_share}
+use Rattle.mini_fs.specs.TicketView.{TicketView}
+use Rattle.mini_fs.specs.Tickets.{ClosedTicket, IsTicketOf, Opened, with_share}
 use Rattle.mini_fs.specs.Turns.{BusyAt, TurnsAt, with_seat}
 
 pub acted-more : (acts : List Act) (a : Act) (p q r : PassView) → Acted acts p q → Acts a q r → Acted (acts ++ a ∷ []) p r

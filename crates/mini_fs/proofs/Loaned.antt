@@ -40,7 +40,8 @@ use Rattle.mount_parts.specs.MountView.{MountView, IsLaidOut, stripe_at}
 use Rattle.mini_fs.proofs.Layouts.{stripe-sizes}
 use Rattle.mini_fs.specs.Loans.{AnswersPages, CarriesLoan, IsLoaned, LieInStripe, direct_back_run, lend_direct_run}
 use Rattle.mini_fs.specs.PassView.{PassView}
-use Rattle.mini_fs.specs.Tickets.{TicketView, lent_claims}
+use Rattle.mini_fs.specs.TicketView.{TicketView}
+use Rattle.mini_fs.specs.Tickets.{lent_claims}
 use Rattle.mini_fs.specs.Turns.{ReadyAt, TurnsAt}
 
 -- blocks of the range that a turn was at are blocks of its stripe

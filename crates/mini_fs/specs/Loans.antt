@@ -38,7 +38,7 @@ use Rattle.range_core.specs.declared.range.lend_writeback.LendWritebackRun.{Lend
 use Rattle.range_core.specs.declared.range.lend_writeback.WrittenBackRun.{WrittenBackRun}
 use Rattle.range_core.specs.declared.sample.Sample.{Sample}
 use Rattle.mount_parts.specs.MountView.{MountView, stripe_at}
-use Rattle.mini_fs.specs.Tickets.{TicketView}
+use Rattle.mini_fs.specs.TicketView.{TicketView}
 
 -- these blocks are blocks of a stripe of the mount, as it was opened
 abbrev pub LieInStripe : MountView → ℕ → ℕ → ℕ → Type 0
