@@ -1,7 +1,8 @@
 -- What a loan leaves on a ticket, and when what was lent may come back on it.
-use Rattle.std.proofs.Common.{◌≡◌, ℕ, ◌-◌, ◌<◌, ◌≤◌, List, [], ◌∷◌, length, map, drop, refl, sym, ap, ◌∙◌, subst, arith, length-drop}
+use Rattle.std.proofs.Common.{◌≡◌, ℕ, ◌+◌, ◌-◌, ◌<◌, ◌≤◌, List, [], ◌∷◌, length, map, drop, refl, sym, ap, ◌∙◌, subst, arith, length-drop}
 use Rattle.std.specs.Prelude.{◌/◌, Bool, true, false, if◌then◌else◌, Option, Some, Result, Ok, Err, slice_get, nat_lt, IfOk}
 use Rattle.std.proofs.lemmas.Bool.{false≢true}
+use Rattle.std.proofs.lemmas.List.{length-map}
 use Rattle.iob_base.proofs.PartLemmas.{pages_of-bare}
 use Rattle.iob_base.specs.Layout.{Layout}
 use Rattle.iob_base.specs.Parting.{pages_of}
@@ -18,8 +19,9 @@ use Rattle.bio_pages.specs.declared.bio.Bio.{Bio}
 use Rattle.turn_cell.specs.Views.{CellView}
 use Rattle.range_core.specs.ClaimsView.{ClaimsView}
 use Rattle.range_core.specs.DirectBacks.{ReadyToReturn}
+use Rattle.range_core.specs.ByteRuns.{part_at, run_between}
 use Rattle.range_core.specs.LendDirects.{ReadyToLend, TurnedToLend, direct_loan, goes_out}
-use Rattle.range_core.specs.LendParts.{TurnedToLendPart}
+use Rattle.range_core.specs.LendParts.{ReadyToLendPart, TurnedToLendPart, around_first, pages_around, with_around}
 use Rattle.range_core.specs.Lends.{lent_of, parts_of}
 use Rattle.range_core.specs.Pages.{zeroed_page}
 use Rattle.range_core.specs.RangeView.{LiesAt, RangeView, cells_from}
@@ -38,7 +40,7 @@ use Rattle.range_core.specs.declared.range.lend_part.LendPartRun.{LendPartRun}
 use Rattle.range_core.specs.declared.sample.Sample.{Sample}
 use Rattle.mount_parts.specs.MountView.{MountView, IsLaidOut, stripe_at}
 use Rattle.mini_fs.proofs.Layouts.{stripe-sizes}
-use Rattle.mini_fs.specs.Loans.{AnswersPages, CarriesLoan, IsLoaned, LieInStripe, direct_back_run, lend_direct_run}
+use Rattle.mini_fs.specs.Loans.{AnswersPages, CarriesLoan, IsLoaned, LieInStripe, direct_back_run, lend_direct_run, lend_part_run}
 use Rattle.mini_fs.specs.PassView.{PassView}
 use Rattle.mini_fs.specs.TicketView.{TicketView}
 use Rattle.mini_fs.specs.Tickets.{lent_claims}
@@ -113,6 +115,38 @@ direct-pages m p q stripe k claims left c d by seen op block pages later ready (
     lent-is (λ l. pages_of l.parts ≡ pages_of pages) (goes_out op seen.extent.kind) lent (direct_loan value block (pages_of pages)) _ turn.turned.done.did.answer_is (parts-pages (cells_from value block) (pages_of pages) room)
 direct-pages m p q stripe k claims left c d by seen op block pages later ready (Ok (Zeros zeros)) turn =
     ap pages_of (zeros-are (goes_out op seen.extent.kind) zeros _ (direct_loan turn.turned.value block (pages_of pages)) turn.turned.done.did.answer_is) ∙ pages_of-bare (map zeroed_page (pages_of pages))
+
+-- so many blocks of an opened range are left from a block on, as they lie in it
+room-for : (cells : List Cell) (first now block place n total : ℕ) → now ≡ first → place ≡ block → first ≤ block → block + n ≤ first + total → length cells ≡ total → n ≤ length (drop (place - now) cells)
+room-for cells first now block place n total e f low high many = omega (arith, length-drop (place - now) cells)
+
+numbers-kept : (f : Page → Page) → ((p : Page) → (f p).number ≡ p.number) → (pages : List Page) → map (λ p. p.number) (map f pages) ≡ map (λ p. p.number) pages
+numbers-kept f same [] = refl
+numbers-kept f same (p ∷ pages) = (λ i. same p i ∷ numbers-kept f same pages i)
+
+-- the page that was handed in goes out, with its number
+pub part-pages : (m : MountView) (p q : PassView) (stripe : ℕ) (k claims left c d : ClaimsView) (by : Tag) (seen : Sample) (from to : ℕ) (page : List Part) (later : LendPartRun)
+    → ReadyAt (λ opening history claims. ReadyToLendPart (lend_part_run by seen from to (Some page)) opening history claims) m p stripe k → (out : Result Lent PartRefused)
+    → TurnsAt (λ opening history value next entry. TurnedToLendPart (lend_part_run by seen from to (Some page)) later opening history value next claims left out entry) m stripe c d p q
+    → IfOk out (λ lent. map (λ p. p.number) (pages_of lent.parts) ≡ map (λ p. p.number) (pages_of page))
+part-pages m p q stripe k claims left c d by seen from to page later ready (Err refused) turn = tt
+part-pages m p q stripe k claims left c d by seen from to page later ready (Ok lent) turn =
+    let r = ready turn.cell turn.before turn.stand in
+    let same : page ≡ r.page = (let e : Some page ≡ Some r.page = r.page_is in cc) in
+    let one : length (pages_of page) ≡ 1 = ap (λ ps. length (pages_of ps)) same ∙ r.one in
+    let run = turn.turned.stood.holds.same_run in
+    let value = turn.turned.value in
+    let cut = run_between value.geometry.block_size from to in
+    let around = pages_around value cut (pages_of page) in
+    let many : length around ≡ 1 = length-map (pages_of page) _ ∙ one in
+    let place : cut.first ≡ from / turn.cell.opening.geometry.block_size = ap (λ (g : Layout). from / g.block_size) run.geometry in
+    let room : 1 ≤ length (drop (cut.first - value.first) value.cells) =
+    room-for value.cells turn.cell.opening.first value.first (from / turn.cell.opening.geometry.block_size) cut.first 1 (length turn.cell.opening.cells) run.first place r.bytes.lies.low
+    (subst (λ n. from / turn.cell.opening.geometry.block_size + n ≤ turn.cell.opening.first + length turn.cell.opening.cells) r.bytes.one r.bytes.lies.high) run.blocks
+    in
+    ap (λ (l : Lent). map (λ p. p.number) (pages_of l.parts)) turn.turned.done.did.lent_is
+    ∙ ap (map (λ p. p.number)) (parts-pages (cells_from value cut.first) around (subst (λ n. n ≤ length (cells_from value cut.first)) (sym many) room))
+    ∙ numbers-kept (with_around (part_at cut cut.first) (around_first value.geometry.block_size (cells_from value cut.first))) (λ p. refl) (pages_of page)
 
 -- What was lent on a ticket may come back on it, after the transfer that `done` tells
 returned : (m : MountView) (file : FileId) (t : TicketView) (lender : Lender) (op : Op) (done : Done) (lent : Lent) (parts : List Part) → IsLoaned m file t lent lender

@@ -1,5 +1,6 @@
 //! Calls that lend blocks on a ticket of a pass.
-ghost use Rattle.std.specs.Prelude.{◌≡◌, ◌/◌, [], None, Some, IfErr, IfOk, OnErr};
+ghost use Rattle.std.specs.Prelude.{◌≡◌, ◌/◌, [], None, Some, IfErr, IfOk, OnErr, map};
+ghost use Rattle.iob_base.specs.Parting.{pages_of};
 ghost use Rattle.mini_fs.specs.Loans.{AnswersPages, CarriesAnswer, IsLoaned, LendsDirect, LendsPart, LendsRead, LendsWriteback, lend_direct_run, lend_part_run};
 ghost use Rattle.mini_fs.specs.PassView.{IsPassOf};
 ghost use Rattle.mini_fs.specs.Tickets.{IsTicketOf, KeepsTickets, lent_claims};
@@ -183,6 +184,7 @@ impl Mount {
         ensures stripe { result.0.stripe ≡ ticket.stripe }
         ensures held { IfOk result.1 (λ lent. IsLoaned self.now file result.0 lent (Part by from to)) }
         ensures refused { OnErr result.1 (result.0.held ≡ None) }
+        ensures page { IfOk result.1 (λ lent. map (λ p. p.number) (pages_of lent.parts) ≡ map (λ p. p.number) (pages_of page)) }
         ensures page_back { IfErr result.1 (λ refused. refused.page ≡ page) }
         ensures tickets { KeepsTickets pass.old pass.new }
     {

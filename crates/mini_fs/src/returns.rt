@@ -7,7 +7,7 @@ ghost use Rattle.mini_fs.specs.PassView.{IsPassOf};
 ghost use Rattle.mini_fs.specs.Tickets.{IsTicketOf, KeepsTickets, lent_claims};
 ghost use Rattle.mini_fs.specs.Turns.{ReadyAt, TurnsAt};
 ghost use Rattle.mount_parts.specs.MountView.{stripe_at};
-ghost use Rattle.range_core.specs.DirectBacks.{ReadyToReturn};
+ghost use Rattle.range_core.specs.DirectBacks.{KeepsPages, ReadyToReturn, pages_held};
 ghost use Rattle.range_core.specs.LendWritebacks.{written_count};
 ghost use Rattle.range_core.specs.Returning.{MayComeBack};
 ghost use Rattle.range_core.specs.declared.lending.Lender.TheVariants.{Reading, Writeback};
@@ -110,6 +110,7 @@ impl Mount {
         ensures stripe { result.0.stripe ≡ ticket.stripe }
         ensures held { result.0.held ≡ None }
         ensures pages { pages_of result.1 ≡ map (λ p. p.page) back.parts }
+        ensures kept { KeepsPages op (pages_held ticket.held) (pages_of result.1) }
         ensures bare { All IsBare result.1 }
         ensures tickets { KeepsTickets pass.old pass.new }
     {
