@@ -12,7 +12,7 @@ use Rattle.iob_base.specs.declared.stamp.FileId.{FileId}
 use Rattle.mount_parts.specs.MountView.{MountView, IsNumbered, LieInOrder, HasBlock, HasFile, IsLaidOut, no_file, file_at, size_cells, stripe_at, stripes_of}
 use Rattle.mount_parts.specs.declared.file.FilePlace.{FilePlace}
 
-lie-above : (fs : List FilePlace) (from size stripes sizes : ℕ) → LieInOrder from size fs stripes sizes → from ≤ stripes
+pub lie-above : (fs : List FilePlace) (from size stripes sizes : ℕ) → LieInOrder from size fs stripes sizes → from ≤ stripes
 lie-above [] from size stripes sizes lies = let e = lies.0 in omega arith
 lie-above (f ∷ fs) from size stripes sizes lies = let h = lie-above fs (from + stripes_of f.blocks) (size + size_cells f.size) stripes sizes lies.2 in omega arith
 

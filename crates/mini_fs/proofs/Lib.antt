@@ -19,3 +19,4 @@ pub mod CrossingRules
 pub mod BioCrossing
 pub mod MountCrossing
 pub mod Unmounting
+pub mod KeptNumbers

@@ -14,7 +14,7 @@
 //! - `shelves`, `run_all`: the shelves of a pass, and how it runs its bios by way of the mount's queue
 //! - `hold`, `locks`: a class of a file's lock, and how a pass takes and leaves it
 //! - `crossing`: threads share a mount and its queues, and what a caller has goes from thread to thread
-//! - `unmount`: how a mount ends
+//! - `unmount`, `kept`: how a mount ends, and that its sectors are then those of its start
 #![tactic(auto)]
 
 mod acts;
@@ -25,6 +25,7 @@ mod direct_events;
 mod due_events;
 mod hold;
 mod join;
+mod kept;
 mod lends;
 mod locks;
 mod mount;
@@ -48,6 +49,7 @@ pub use crossing::{
     sent_bios_cross, shelf_seats_cross, shelves_cross, tickets_cross,
 };
 pub use hold::{CachedHold, DirectHold, ExclusiveHold};
+pub use kept::numbers_are_kept;
 pub use locks::WordBusy;
 pub use mount::Mount;
 pub use mount_parts::FilePlace;
