@@ -1,3 +1,9 @@
+pub mod Begins
+pub mod MapBlocks
+pub mod MapSteps
+pub mod SpaceEvents
+pub mod Opens
+pub mod Ready
 pub mod Layouts
 pub mod Seats
 pub mod Loans

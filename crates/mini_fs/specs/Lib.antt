@@ -15,3 +15,6 @@ pub mod Wholes
 pub mod PageTurns
 pub mod DirectTurns
 pub mod DueTurns
+pub mod SpaceTurns
+pub mod MapTurns
+pub mod Mappings

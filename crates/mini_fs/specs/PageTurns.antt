@@ -23,10 +23,6 @@ use Rattle.range_core.specs.declared.range.store_zeros.StoreZerosRun.{StoreZeros
 use Rattle.range_core.specs.declared.sample.Sample.{Sample}
 use Rattle.mount_parts.specs.MountView.{MountView}
 
--- the block of a file that has the byte in this place
-abbrev pub block_with : MountView → ℕ → ℕ
-block_with m place = place / m.geometry.block_size
-
 -- the entry of a caller of this number
 abbrev pub entry_by : ℕ → Event → Outcome → Entry
 entry_by caller event outcome = record { caller = caller; event = event; outcome = outcome }

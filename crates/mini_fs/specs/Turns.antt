@@ -1,5 +1,5 @@
 -- What a turn of a pass asks and does.
-use Rattle.std.specs.Prelude.{◌≡◌, ℕ, Some, List, slice_get, slice_set}
+use Rattle.std.specs.Prelude.{◌≡◌, ℕ, ◌/◌, Some, List, slice_get, slice_set}
 use Rattle.turn_cell.specs.Stakes.{Begins}
 use Rattle.turn_cell.specs.Views.{CellView, SeatView, Turned, FoundHeld}
 use Rattle.range_core.specs.ClaimsView.{ClaimsView, released}
@@ -8,6 +8,10 @@ use Rattle.range_core.specs.RangeView.{RangeView}
 use Rattle.range_core.specs.declared.entry.Entry.{Entry}
 use Rattle.mount_parts.specs.MountView.{MountView}
 use Rattle.mini_fs.specs.PassView.{PassView}
+
+-- the block that has the byte in this place of a file
+abbrev pub block_at : MountView → ℕ → ℕ
+block_at m place = place / m.geometry.block_size
 
 -- the pass with another seat at a stripe
 abbrev pub with_seat : PassView → ℕ → SeatView Entry → PassView

@@ -8,10 +8,9 @@ ghost use Rattle.range_core.specs.Judges.{AsksLane};
 ghost use Rattle.range_core.specs.KnownSamples.{WasGiven};
 ghost use Rattle.mount_parts.specs.MountView.{HasBlock, stripe_at};
 ghost use Rattle.mini_fs.specs.DirectTurns.{GotOn, PutOn, ZeroedOn};
-ghost use Rattle.mini_fs.specs.PageTurns.{block_with};
 ghost use Rattle.mini_fs.specs.PassView.{IsPassOf, claims_of};
 ghost use Rattle.mini_fs.specs.Tickets.{KeepsTickets};
-ghost use Rattle.mini_fs.specs.Turns.{ReadyAt, TurnsAt};
+ghost use Rattle.mini_fs.specs.Turns.{ReadyAt, TurnsAt, block_at};
 
 use crate::mount::Mount;
 use crate::pass::Pass;
@@ -43,10 +42,10 @@ impl Mount {
         iov: &mut IovIter,
     ) -> Result<(), EventFault>
         requires of { IsPassOf self.now pass.old }
-        requires block { HasBlock self.now file (block_with self.now from) }
-        requires ready { ReadyAt (λ opening entries _. IsThrough opening seen from to × HasNext iov.old (to - from) × WasGiven seen entries) self.now pass.old (stripe_at self.now file (block_with self.now from)) (claims_of pass.old) }
+        requires block { HasBlock self.now file (block_at self.now from) }
+        requires ready { ReadyAt (λ opening entries _. IsThrough opening seen from to × HasNext iov.old (to - from) × WasGiven seen entries) self.now pass.old (stripe_at self.now file (block_at self.now from)) (claims_of pass.old) }
         ensures of { IsPassOf self.now pass.new }
-        ensures turned { TurnsAt (λ opening history before after entry. GotOn (lane_seen count tells lane.old) (lane_seen count tells lane.new) by seen from to iov.old iov.new opening history before after pass.old.caller result entry) self.now (stripe_at self.now file (block_with self.now from)) (claims_of pass.old) (claims_of pass.old) pass.old pass.new }
+        ensures turned { TurnsAt (λ opening history before after entry. GotOn (lane_seen count tells lane.old) (lane_seen count tells lane.new) by seen from to iov.old iov.new opening history before after pass.old.caller result entry) self.now (stripe_at self.now file (block_at self.now from)) (claims_of pass.old) (claims_of pass.old) pass.old pass.new }
         ensures tickets { KeepsTickets pass.old pass.new }
     {
         let mut change = DaxGetRun {
@@ -84,16 +83,16 @@ impl Mount {
         iov: &mut IovIter,
     ) -> Result<(), EventFault>
         requires of { IsPassOf self.now pass.old }
-        requires block { HasBlock self.now file (block_with self.now from) }
-        requires ready { ReadyAt (λ opening entries _. IsThrough opening seen from to × HasNext iov.old (to - from) × WasGiven seen entries) self.now pass.old (stripe_at self.now file (block_with self.now from)) (claims_of pass.old) }
+        requires block { HasBlock self.now file (block_at self.now from) }
+        requires ready { ReadyAt (λ opening entries _. IsThrough opening seen from to × HasNext iov.old (to - from) × WasGiven seen entries) self.now pass.old (stripe_at self.now file (block_at self.now from)) (claims_of pass.old) }
         ensures of { IsPassOf self.now pass.new }
-        ensures turned { TurnsAt (λ opening history before after entry. PutOn (lane_seen count tells lane.old) (lane_seen count tells lane.new) self.now.pool.opening by seen from to iov.old iov.new before after pass.old.caller result entry) self.now (stripe_at self.now file (block_with self.now from)) (claims_of pass.old) (claims_of pass.old) pass.old pass.new }
+        ensures turned { TurnsAt (λ opening history before after entry. PutOn (lane_seen count tells lane.old) (lane_seen count tells lane.new) self.now.pool.opening by seen from to iov.old iov.new before after pass.old.caller result entry) self.now (stripe_at self.now file (block_at self.now from)) (claims_of pass.old) (claims_of pass.old) pass.old pass.new }
         ensures tickets { KeepsTickets pass.old pass.new }
     {
         self.is_laid_out();
         let mut change = DaxPutRun {
             rt,
-            space: self.space(),
+            space: self.pool(),
             by,
             judge: |n: u32| -> Done
                 requires { 0 < n }
@@ -126,10 +125,10 @@ impl Mount {
         to: u64,
     ) -> Result<(), EventFault>
         requires of { IsPassOf self.now pass.old }
-        requires block { HasBlock self.now file (block_with self.now from) }
-        requires ready { ReadyAt (λ opening entries _. IsThrough opening seen from to × WasGiven seen entries) self.now pass.old (stripe_at self.now file (block_with self.now from)) (claims_of pass.old) }
+        requires block { HasBlock self.now file (block_at self.now from) }
+        requires ready { ReadyAt (λ opening entries _. IsThrough opening seen from to × WasGiven seen entries) self.now pass.old (stripe_at self.now file (block_at self.now from)) (claims_of pass.old) }
         ensures of { IsPassOf self.now pass.new }
-        ensures turned { TurnsAt (λ opening history before after entry. ZeroedOn (lane_seen count tells lane.old) (lane_seen count tells lane.new) by seen from to before after pass.old.caller result entry) self.now (stripe_at self.now file (block_with self.now from)) (claims_of pass.old) (claims_of pass.old) pass.old pass.new }
+        ensures turned { TurnsAt (λ opening history before after entry. ZeroedOn (lane_seen count tells lane.old) (lane_seen count tells lane.new) by seen from to before after pass.old.caller result entry) self.now (stripe_at self.now file (block_at self.now from)) (claims_of pass.old) (claims_of pass.old) pass.old pass.new }
         ensures tickets { KeepsTickets pass.old pass.new }
     {
         let mut change = DaxZeroRun {

@@ -8,6 +8,8 @@
 //! - `pass`, `begun`: a caller's seats and numbers, and the mapping that it began
 //! - `turn`, `size`: one turn of a pass, at a stripe and at a size
 //! - `page_events`, `direct_events`, `dax_events`, `due_events`: the events of a range, each as one turn of a pass
+//! - `looks`, `space_events`: turns that look at extents, promise space to blocks, take promises back and give sectors
+//! - `mapping`: how a mount maps ranges of its files
 //! - `split`, `join`: how a pass is split for another caller, and how two passes are joined
 //! - `ticket`: the seat that carries a loan, and the turns that lend and take back
 //! - `lends`, `returns`: the events that lend on a ticket and take back from one
@@ -28,6 +30,8 @@ mod join;
 mod kept;
 mod lends;
 mod locks;
+mod looks;
+mod mapping;
 mod mount;
 mod open_bios;
 mod page_events;
@@ -36,6 +40,7 @@ mod returns;
 mod run_all;
 mod shelves;
 mod size;
+mod space_events;
 mod split;
 mod start;
 mod ticket;

@@ -1,5 +1,5 @@
 //! The mount: the cells and locks of its files.
-ghost use Rattle.std.specs.Prelude.{◌≡◌, ◌<◌, ◌≤◌, ◌+◌, ◌/◌, Some, is_some, length, slice_get};
+ghost use Rattle.std.specs.Prelude.{◌≡◌, ◌<◌, ◌≤◌, ◌+◌, ◌/◌, IsTrue, Some, is_some, length, slice_get};
 ghost use Rattle.turn_cell.specs.Seats.{cell_view};
 
 use crate::ticket::Ticket;
@@ -54,9 +54,10 @@ impl Model for Mount {
 }
 
 impl Mount {
+    ghost use Rattle.iob_base.specs.Geometry.{is_block_size};
     ghost use Rattle.mount_parts.specs.MountView.{HasBlock, HasFile, IsLaidOut, file_at, stripe_at};
     ghost use Rattle.space_pool.specs.Seats.{pool_cell};
-    ghost use Rattle.mini_fs.specs.PageTurns.{block_with};
+    ghost use Rattle.mini_fs.specs.Turns.{block_at};
     ghost use Rattle.mini_fs.specs.SizeTurns.{HasSize, size_at};
 
     /// Where the parts of every mount lie. It does nothing.
@@ -103,14 +104,15 @@ impl Mount {
     }
 
     // The block of a file that has the byte in this place.
-    pub(crate) fn block_with(&self, place: u64) -> u64
-        ensures { result ≡ block_with self.now place }
+    pub(crate) fn block_at(&self, place: u64) -> u64
+        ensures is { result ≡ block_at self.now place }
+        ensures sized { IsTrue (is_block_size self.now.geometry.block_size) }
     {
         place / u64::from(self.geometry.block_size())
     }
 
     // The pool that all stripes have their seats at.
-    pub(crate) fn space(&self) -> &SpacePool
+    pub(crate) fn pool(&self) -> &SpacePool
         ensures { pool_cell result.now ≡ self.now.pool }
     {
         &self.pool

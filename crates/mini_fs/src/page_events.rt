@@ -8,10 +8,10 @@ ghost use Rattle.range_core.specs.RangeView.{LiesAt};
 ghost use Rattle.range_core.specs.StoreZeros.{CanStoreZeros, StoredZeros};
 ghost use Rattle.range_core.specs.Stores.{CanStore};
 ghost use Rattle.mount_parts.specs.MountView.{HasBlock, stripe_at};
-ghost use Rattle.mini_fs.specs.PageTurns.{AttachesAt, FetchedTo, StoredFrom, WipesAt, block_with, drop_run, zeros_run};
+ghost use Rattle.mini_fs.specs.PageTurns.{AttachesAt, FetchedTo, StoredFrom, WipesAt, drop_run, zeros_run};
 ghost use Rattle.mini_fs.specs.PassView.{IsPassOf, claims_of, refused_at};
 ghost use Rattle.mini_fs.specs.Tickets.{KeepsTickets};
-ghost use Rattle.mini_fs.specs.Turns.{BusyAt, ReadyAt, TurnsAt};
+ghost use Rattle.mini_fs.specs.Turns.{BusyAt, ReadyAt, TurnsAt, block_at};
 
 use crate::mount::Mount;
 use crate::pass::Pass;
@@ -46,10 +46,10 @@ impl Mount {
         iov: &mut IovIter,
     ) -> Result<(), EventFault>
         requires of { IsPassOf self.now pass.old }
-        requires block { HasBlock self.now file (block_with self.now from) }
-        requires ready { ReadyAt (λ opening _ _. CanFetch opening from to iov.old) self.now pass.old (stripe_at self.now file (block_with self.now from)) (claims_of pass.old) }
+        requires block { HasBlock self.now file (block_at self.now from) }
+        requires ready { ReadyAt (λ opening _ _. CanFetch opening from to iov.old) self.now pass.old (stripe_at self.now file (block_at self.now from)) (claims_of pass.old) }
         ensures of { IsPassOf self.now pass.new }
-        ensures turned { TurnsAt (λ opening history before after entry. FetchedTo by from to iov.old iov.new opening history before after pass.old.caller result entry) self.now (stripe_at self.now file (block_with self.now from)) (claims_of pass.old) (claims_of pass.old) pass.old pass.new }
+        ensures turned { TurnsAt (λ opening history before after entry. FetchedTo by from to iov.old iov.new opening history before after pass.old.caller result entry) self.now (stripe_at self.now file (block_at self.now from)) (claims_of pass.old) (claims_of pass.old) pass.old pass.new }
         ensures tickets { KeepsTickets pass.old pass.new }
     {
         let mut change = FetchRun { by, from, to, iov };
@@ -72,12 +72,12 @@ impl Mount {
         iov: &mut IovIter,
     ) -> Result<Result<(), EventFault>, Busy>
         requires of { IsPassOf self.now pass.old }
-        requires block { HasBlock self.now file (block_with self.now from) }
-        requires ready { ReadyAt (λ opening _ _. CanFetch opening from to iov.old) self.now pass.old (stripe_at self.now file (block_with self.now from)) (claims_of pass.old) }
+        requires block { HasBlock self.now file (block_at self.now from) }
+        requires ready { ReadyAt (λ opening _ _. CanFetch opening from to iov.old) self.now pass.old (stripe_at self.now file (block_at self.now from)) (claims_of pass.old) }
         ensures of { IsPassOf self.now pass.new }
-        ensures turned { IfOk result (λ answer. TurnsAt (λ opening history before after entry. FetchedTo by from to iov.old iov.new opening history before after pass.old.caller answer entry) self.now (stripe_at self.now file (block_with self.now from)) (claims_of pass.old) (claims_of pass.old) pass.old pass.new) }
-        ensures free { OnOk result (refused_at pass.new (stripe_at self.now file (block_with self.now from)) ≡ refused_at pass.old (stripe_at self.now file (block_with self.now from))) }
-        ensures busy { IfErr result (λ busy. BusyAt (stripe_at self.now file (block_with self.now from)) busy.word pass.old pass.new) }
+        ensures turned { IfOk result (λ answer. TurnsAt (λ opening history before after entry. FetchedTo by from to iov.old iov.new opening history before after pass.old.caller answer entry) self.now (stripe_at self.now file (block_at self.now from)) (claims_of pass.old) (claims_of pass.old) pass.old pass.new) }
+        ensures free { OnOk result (refused_at pass.new (stripe_at self.now file (block_at self.now from)) ≡ refused_at pass.old (stripe_at self.now file (block_at self.now from))) }
+        ensures busy { IfErr result (λ busy. BusyAt (stripe_at self.now file (block_at self.now from)) busy.word pass.old pass.new) }
         ensures nothing { OnErr result (iov.new ≡ iov.old) }
         ensures tickets { KeepsTickets pass.old pass.new }
     {
@@ -108,10 +108,10 @@ impl Mount {
         iov: &mut IovIter,
     ) -> Result<(), EventFault>
         requires of { IsPassOf self.now pass.old }
-        requires block { HasBlock self.now file (block_with self.now from) }
-        requires ready { ReadyAt (λ opening entries _. CanStore opening seen from to iov.old × WasGiven seen entries) self.now pass.old (stripe_at self.now file (block_with self.now from)) (claims_of pass.old) }
+        requires block { HasBlock self.now file (block_at self.now from) }
+        requires ready { ReadyAt (λ opening entries _. CanStore opening seen from to iov.old × WasGiven seen entries) self.now pass.old (stripe_at self.now file (block_at self.now from)) (claims_of pass.old) }
         ensures of { IsPassOf self.now pass.new }
-        ensures turned { TurnsAt (λ opening history before after entry. StoredFrom by seen from to iov.old iov.new before after pass.old.caller result entry) self.now (stripe_at self.now file (block_with self.now from)) (claims_of pass.old) (claims_of pass.old) pass.old pass.new }
+        ensures turned { TurnsAt (λ opening history before after entry. StoredFrom by seen from to iov.old iov.new before after pass.old.caller result entry) self.now (stripe_at self.now file (block_at self.now from)) (claims_of pass.old) (claims_of pass.old) pass.old pass.new }
         ensures tickets { KeepsTickets pass.old pass.new }
     {
         let mut change = StoreRun {
@@ -141,10 +141,10 @@ impl Mount {
         to: u64,
     ) -> Result<(), EventFault>
         requires of { IsPassOf self.now pass.old }
-        requires block { HasBlock self.now file (block_with self.now from) }
-        requires ready { ReadyAt (λ opening entries _. CanStoreZeros opening seen from to × WasGiven seen entries) self.now pass.old (stripe_at self.now file (block_with self.now from)) (claims_of pass.old) }
+        requires block { HasBlock self.now file (block_at self.now from) }
+        requires ready { ReadyAt (λ opening entries _. CanStoreZeros opening seen from to × WasGiven seen entries) self.now pass.old (stripe_at self.now file (block_at self.now from)) (claims_of pass.old) }
         ensures of { IsPassOf self.now pass.new }
-        ensures turned { TurnsAt (λ opening history before after entry. StoredZeros (zeros_run by seen from to) (zeros_run by seen from to) before after (claims_of pass.old) (claims_of pass.old) result entry) self.now (stripe_at self.now file (block_with self.now from)) (claims_of pass.old) (claims_of pass.old) pass.old pass.new }
+        ensures turned { TurnsAt (λ opening history before after entry. StoredZeros (zeros_run by seen from to) (zeros_run by seen from to) before after (claims_of pass.old) (claims_of pass.old) result entry) self.now (stripe_at self.now file (block_at self.now from)) (claims_of pass.old) (claims_of pass.old) pass.old pass.new }
         ensures tickets { KeepsTickets pass.old pass.new }
     {
         let mut change = StoreZerosRun { by, seen, from, to };
@@ -175,7 +175,7 @@ impl Mount {
         self.is_laid_out();
         let mut change = AttachRun {
             rt,
-            space: self.space(),
+            space: self.pool(),
             block: b,
             blocks: n,
         };
@@ -224,7 +224,7 @@ impl Mount {
         self.is_laid_out();
         let mut change = WipeRun {
             rt,
-            space: self.space(),
+            space: self.pool(),
             by,
             block: b,
             blocks: n,

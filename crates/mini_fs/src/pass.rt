@@ -44,6 +44,8 @@ impl Model for Pass {
 }
 
 impl Pass {
+    ghost use Rattle.mini_fs.specs.Mappings.{with_begun};
+
     /// The caller number.
     pub fn caller(&self) -> u32
         ensures { result ≡ self.now.caller }
@@ -63,5 +65,19 @@ impl Pass {
         ensures { result ≡ self.now.last }
     {
         self.last
+    }
+
+    // The mapping that the pass began and has not ended.
+    pub(crate) fn begun(&self) -> Option<Begun>
+        ensures { result ≡ self.now.begun }
+    {
+        self.begun
+    }
+
+    // Notes a mapping that the pass began, or that it has none any more.
+    pub(crate) fn note(&mut self, begun: Option<Begun>)
+        ensures { self.new ≡ with_begun self.old begun }
+    {
+        self.begun = begun;
     }
 }

@@ -1,10 +1,9 @@
 //! A turn of a pass.
 ghost use Rattle.std.specs.Prelude.{◌≡◌, OnOk, IfOk, IfErr};
 ghost use Rattle.mount_parts.specs.MountView.{HasBlock, stripe_at};
-ghost use Rattle.mini_fs.specs.PageTurns.{block_with};
 ghost use Rattle.mini_fs.specs.PassView.{IsPassOf, claims_of, refused_at};
 ghost use Rattle.mini_fs.specs.Tickets.{KeepsTickets};
-ghost use Rattle.mini_fs.specs.Turns.{BusyAt, LeavesClaims, ReadyAt, TurnsAt};
+ghost use Rattle.mini_fs.specs.Turns.{BusyAt, LeavesClaims, ReadyAt, TurnsAt, block_at};
 
 use crate::mount::Mount;
 use crate::pass::Pass;
@@ -77,14 +76,14 @@ impl Mount {
         change: &mut C,
     ) -> C::Out
         requires of { IsPassOf self.now pass.old }
-        requires block { HasBlock self.now file (block_with self.now from) }
-        requires ready { ReadyAt (C.ready change.old) self.now pass.old (stripe_at self.now file (block_with self.now from)) (claims_of pass.old) }
+        requires block { HasBlock self.now file (block_at self.now from) }
+        requires ready { ReadyAt (C.ready change.old) self.now pass.old (stripe_at self.now file (block_at self.now from)) (claims_of pass.old) }
         requires leaves { LeavesClaims C.does change.old }
         ensures of { IsPassOf self.now pass.new }
-        ensures turned { TurnsAt (λ opening history value next entry. C.does change.old opening history value (claims_of pass.old) change.new next (claims_of pass.old) result entry) self.now (stripe_at self.now file (block_with self.now from)) (claims_of pass.old) (claims_of pass.old) pass.old pass.new }
+        ensures turned { TurnsAt (λ opening history value next entry. C.does change.old opening history value (claims_of pass.old) change.new next (claims_of pass.old) result entry) self.now (stripe_at self.now file (block_at self.now from)) (claims_of pass.old) (claims_of pass.old) pass.old pass.new }
         ensures tickets { KeepsTickets pass.old pass.new }
     {
-        let block = self.block_with(from);
+        let block = self.block_at(from);
         self.turn(rt, pass, file, block, change)
     }
 
@@ -97,16 +96,16 @@ impl Mount {
         change: &mut C,
     ) -> Result<C::Out, Busy>
         requires of { IsPassOf self.now pass.old }
-        requires block { HasBlock self.now file (block_with self.now from) }
-        requires ready { ReadyAt (C.ready change.old) self.now pass.old (stripe_at self.now file (block_with self.now from)) (claims_of pass.old) }
+        requires block { HasBlock self.now file (block_at self.now from) }
+        requires ready { ReadyAt (C.ready change.old) self.now pass.old (stripe_at self.now file (block_at self.now from)) (claims_of pass.old) }
         requires leaves { LeavesClaims C.does change.old }
         ensures of { IsPassOf self.now pass.new }
-        ensures turned { IfOk result (λ out. TurnsAt (λ opening history value next entry. C.does change.old opening history value (claims_of pass.old) change.new next (claims_of pass.old) out entry) self.now (stripe_at self.now file (block_with self.now from)) (claims_of pass.old) (claims_of pass.old) pass.old pass.new) }
-        ensures free { OnOk result (refused_at pass.new (stripe_at self.now file (block_with self.now from)) ≡ refused_at pass.old (stripe_at self.now file (block_with self.now from))) }
-        ensures busy { IfErr result (λ busy. BusyAt (stripe_at self.now file (block_with self.now from)) busy.word pass.old pass.new × (change.new ≡ change.old)) }
+        ensures turned { IfOk result (λ out. TurnsAt (λ opening history value next entry. C.does change.old opening history value (claims_of pass.old) change.new next (claims_of pass.old) out entry) self.now (stripe_at self.now file (block_at self.now from)) (claims_of pass.old) (claims_of pass.old) pass.old pass.new) }
+        ensures free { OnOk result (refused_at pass.new (stripe_at self.now file (block_at self.now from)) ≡ refused_at pass.old (stripe_at self.now file (block_at self.now from))) }
+        ensures busy { IfErr result (λ busy. BusyAt (stripe_at self.now file (block_at self.now from)) busy.word pass.old pass.new × (change.new ≡ change.old)) }
         ensures tickets { KeepsTickets pass.old pass.new }
     {
-        let block = self.block_with(from);
+        let block = self.block_at(from);
         self.try_turn(pass, file, block, change)
     }
 }

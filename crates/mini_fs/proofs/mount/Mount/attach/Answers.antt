@@ -6,7 +6,7 @@ use Rattle.mini_fs.proofs.mount.Mount.attach.Goals as goal
 pub turn-requires-clause-ready : goal.turn-requires-clause-ready
 turn-requires-clause-ready g c = λ cell seat stand.
     let r = c.requires.ready cell seat stand in
-    record { own = refl; may = record { lies = r; pool = at-pool c.args.self.now c.args.pass.now c.args.file c.args.b cell seat _ c.is_laid_out.ensures c.requires.block c.space.ensures stand } }
+    record { own = refl; may = record { lies = r; pool = at-pool c.args.self.now c.args.pass.now c.args.file c.args.b cell seat _ c.is_laid_out.ensures c.requires.block c.pool.ensures stand } }
 
 pub returns-clause-turned : goal.returns-clause-turned
-returns-clause-turned g c = told-as _ _ _ _ _ _ _ _ c.turn.ensures.turned (λ opening history before after entry d. attaches _ _ before after _ _ _ entry _ c.space.ensures d)
+returns-clause-turned g c = told-as _ _ _ _ _ _ _ _ c.turn.ensures.turned (λ opening history before after entry d. attaches _ _ before after _ _ _ entry _ c.pool.ensures d)
