@@ -79,6 +79,7 @@ fn gather_each<T: Drop>(
     ensures run { (all : List (Bio T)) → AreOut sent all owner.old → Turned all bios.old.items bios.new.items dones.old.items dones.new.items }
     ensures len { vec_len bios.new ≡ vec_len bios.old + sent }
     ensures told { (vec_len dones.new ≡ vec_len dones.old + sent) × (vec_capacity dones.new ≡ vec_capacity dones.old) }
+    ensures kept { vec_capacity bios.new ≡ vec_capacity bios.old }
     ensures notes { Emptied sent owner.old owner.new }
     ensures own { OwnFailures (lane_seen count tells lane.new).number then (lane_seen count tells lane.new).count dones.new.items }
     ensures lane { HasRun (lane_seen count tells lane.old) (lane_seen count tells lane.new) }
@@ -105,6 +106,7 @@ pub fn run_here<T: Drop>(
     requires then { then ≤ (lane_seen count tells lane.old).count }
     requires own { OwnFailures (lane_seen count tells lane.old).number then (lane_seen count tells lane.old).count dones.old.items }
     ensures run { Turned (take left bios.old.items) (drop left bios.old.items) bios.new.items dones.old.items dones.new.items }
+    ensures kept { (vec_capacity bios.new ≡ vec_capacity bios.old) × (vec_capacity dones.new ≡ vec_capacity dones.old) }
     ensures own { OwnFailures (lane_seen count tells lane.new).number then (lane_seen count tells lane.new).count dones.new.items }
     ensures lane { HasRun (lane_seen count tells lane.old) (lane_seen count tells lane.new) }
 {
@@ -141,6 +143,7 @@ pub fn run_list<T: Drop, R: Wait>(
     requires none_told { dones.old.items ≡ [] }
     requires room { vec_len dones.old + vec_len bios.old ≤ vec_capacity dones.old }
     ensures run { AreRun bios.old.items bios.new.items dones.new.items }
+    ensures kept { (vec_capacity bios.new ≡ vec_capacity bios.old) × (vec_capacity dones.new ≡ vec_capacity dones.old) }
     ensures own { OwnFailures (lane_seen count tells lane.old).number (lane_seen count tells lane.old).count (lane_seen count tells lane.new).count dones.new.items }
     ensures owner { owner.new ≡ seen_last (with_amount owner.old owner.new.amount) }
     ensures sent { SentOut (vec_len bios.old) owner.old owner.new pass.old pass.new }

@@ -37,6 +37,7 @@ impl Mount {
         requires room { vec_len bios.old ≤ vec_capacity dones.old }
         ensures of { IsPassOf self.now pass.new }
         ensures run { AreRun bios.old.items bios.new.items dones.new.items }
+        ensures kept { (vec_capacity bios.new ≡ vec_capacity bios.old) × (vec_capacity dones.new ≡ vec_capacity dones.old) }
         ensures own { OwnFailures (lane_seen count tells lane.old).number (lane_seen count tells lane.old).count (lane_seen count tells lane.new).count dones.new.items }
         ensures pass { pass.new ≡ with_bios pass.old pass.new.bios }
         ensures shelves { KeepsShelves (vec_len bios.old) pass.old.bios pass.new.bios }

@@ -105,6 +105,7 @@ fn run_each(lane: &mut Lane, bios: &mut Vec<Bio<Ticket>>, dones: &mut Vec<Done>)
     requires none_told { dones.old.items ≡ [] }
     requires room { vec_len bios.old ≤ vec_capacity dones.old }
     ensures run { AreRun bios.old.items bios.new.items dones.new.items }
+    ensures kept { (vec_capacity bios.new ≡ vec_capacity bios.old) × (vec_capacity dones.new ≡ vec_capacity dones.old) }
     ensures own { OwnFailures (lane_seen count tells lane.old).number (lane_seen count tells lane.old).count (lane_seen count tells lane.new).count dones.new.items }
     ensures lane { HasRun (lane_seen count tells lane.old) (lane_seen count tells lane.new) }
 {
@@ -130,6 +131,7 @@ impl OwnShelf {
         requires none_told { dones.old.items ≡ [] }
         requires room { vec_len bios.old ≤ vec_capacity dones.old }
         ensures run { AreRun bios.old.items bios.new.items dones.new.items }
+        ensures kept { (vec_capacity bios.new ≡ vec_capacity bios.old) × (vec_capacity dones.new ≡ vec_capacity dones.old) }
         ensures own { OwnFailures (lane_seen count tells lane.old).number (lane_seen count tells lane.old).count (lane_seen count tells lane.new).count dones.new.items }
         ensures owner { self.new ≡ seen_last (with_amount self.old self.new.amount) }
         ensures sent { SentOut (vec_len bios.old) self.old self.new pass.old pass.new }
@@ -189,6 +191,7 @@ impl BioSeats {
         requires none_told { dones.old.items ≡ [] }
         requires room { vec_len bios.old ≤ vec_capacity dones.old }
         ensures run { AreRun bios.old.items bios.new.items dones.new.items }
+        ensures kept { (vec_capacity bios.new ≡ vec_capacity bios.old) × (vec_capacity dones.new ≡ vec_capacity dones.old) }
         ensures own { OwnFailures (lane_seen count tells lane.old).number (lane_seen count tells lane.old).count (lane_seen count tells lane.new).count dones.new.items }
         ensures queue { self.new.queue.queue ≡ self.old.queue.queue }
         ensures shelves { KeepsShelves (vec_len bios.old) self.old self.new }

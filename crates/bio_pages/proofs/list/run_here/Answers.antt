@@ -7,7 +7,7 @@ use Rattle.bio_pages.proofs.Listed.{at-take, own-then, there, turned-here, turne
 use Rattle.bio_pages.proofs.list.run_here.Goals as goal
 
 pub loop-init : goal.loop-init
-loop-init g c = record { run = turned-none _ _; own = c.requires.own; lane = lane-none _; len = refl; told = omega arith; kept = refl }
+loop-init g c = record { run = turned-none _ _; own = c.requires.own; lane = lane-none _; len = refl; told = omega arith; space = refl; kept = refl }
 
 pub run_bio-done-requires : goal.run_bio-done-requires
 run_bio-done-requires g c =
@@ -45,5 +45,6 @@ loop-preserved g c =
       lane = lane-then _ _ _ inv.lane (1, c.run_bio-done.ensures.tells.ran);
       len = omega arith;
       told = omega arith;
+      space = c.push_reserved.ensures.capacity ∙ c.remove-bio.ensures.capacity ∙ inv.space;
       kept = c.push_reserved-in-loop.ensures.capacity ∙ inv.kept;
     }

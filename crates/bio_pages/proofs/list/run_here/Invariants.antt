@@ -12,5 +12,6 @@ invariant-loop g l = record {
   lane : HasRun (lane_seen (λ z. (goal.Fate-dyn g z).count z.1) (λ z. (goal.Fate-dyn g z).tells z.1) l.initial.lane) (lane_seen (λ z. (goal.Fate-dyn g z).count z.1) (λ z. (goal.Fate-dyn g z).tells z.1) l.lane);
   len : vec_len l.bios ≡ vec_len l.initial.bios;
   told : vec_len l.dones ≡ vec_len l.initial.dones + l.counter;
+  space : vec_capacity l.bios ≡ vec_capacity l.initial.bios;
   kept : vec_capacity l.dones ≡ vec_capacity l.initial.dones;
 }
