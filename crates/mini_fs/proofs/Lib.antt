@@ -26,3 +26,4 @@ pub mod BioCrossing
 pub mod MountCrossing
 pub mod Unmounting
 pub mod KeptNumbers
+pub mod CallLemmas

@@ -18,3 +18,4 @@ pub mod DueTurns
 pub mod SpaceTurns
 pub mod MapTurns
 pub mod Mappings
+pub mod CallActs
