@@ -2,6 +2,7 @@
 use denote.Param.Send.{IsSend, IsSync}
 use Rattle.inode_lock.specs.contracts.lock.InodeLock as InodeLock
 use Rattle.inode_lock.specs.contracts.seats.LockSeat as LockSeat
+use Rattle.iob_base.specs.contracts.sector.Sector as Sector
 use Rattle.range_core.specs.contracts.chronicle.RangeChronicle.TheImpl as ranges
 use Rattle.range_core.specs.contracts.claims.Claims as Claims
 use Rattle.range_core.specs.contracts.entry.Entry as Entry
@@ -10,6 +11,7 @@ use Rattle.size_core.specs.contracts.chronicle.SizesChronicle.TheImpl as sizes
 use Rattle.size_core.specs.contracts.claims.SizeClaims as SizeClaims
 use Rattle.size_core.specs.contracts.entry.SizeEntry as SizeEntry
 use Rattle.size_core.specs.contracts.sizes.Sizes as Sizes
+use Rattle.space_pool.specs.contracts.cell.SpacePool as SpacePool
 use Rattle.turn_cell.specs.contracts.cell.TurnCell as TurnCell
 use Rattle.turn_cell.specs.contracts.seat.TurnSeat as TurnSeat
 use Rattle.mini_fs.specs.contracts.mount.Mount as Mount
@@ -37,6 +39,12 @@ SizeCell-sync = search crossing_rules depth 80 fits 10000
 pub InodeLock-sync : IsSync InodeLock.the_row
 InodeLock-sync = search crossing_rules depth 80 fits 10000
 
+pub SpacePool-sync : IsSync SpacePool.the_row
+SpacePool-sync = search crossing_rules depth 80 fits 10000
+
+pub Sector-sync : IsSync Sector.the_row
+Sector-sync = search crossing_rules depth 80 fits 10000
+
 pub Ticket-send : IsSend Ticket.the_row
 Ticket-send = search (crossing_rules, RangeSeat-send) depth 80 fits 10000
 
@@ -44,4 +52,4 @@ pub Pass-send : IsSend Pass.the_row
 Pass-send = search (crossing_rules, RangeSeat-send, SizeSeat-send, LockSeat-send, Ticket-send, QueuePass-send, ShelfSeat-send, BioShelf-send, BioShelf-sync) depth 80 fits 10000
 
 pub Mount-sync : IsSync Mount.the_row
-Mount-sync = search (crossing_rules, RangeCell-sync, SizeCell-sync, InodeLock-sync, Ticket-send, BioQueue-sync) depth 80 fits 10000
+Mount-sync = search (crossing_rules, RangeCell-sync, SizeCell-sync, InodeLock-sync, SpacePool-sync, Sector-sync, Ticket-send, BioQueue-sync) depth 80 fits 10000
