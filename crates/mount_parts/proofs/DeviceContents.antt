@@ -1,5 +1,5 @@
 -- The sectors of stripes are those of the device, each in the place of its number.
-use Rattle.std.proofs.Common.{◌≡◌, ℕ, zero, suc, ◌+◌, ◌*◌, ◌/◌, ◌%◌, ◌<◌, ◌≤◌, ◌^◌, ◌==◌, ◌&&◌, Bool, true, false, Option, Some, None, List, [], ◌∷◌, ◌++◌, length, map, take, drop, refl, sym, subst, ap, ◌∙◌, arith}
+use Rattle.std.proofs.Common.{◌≡◌, ℕ, zero, suc, ◌+◌, ◌*◌, ◌/◌, ◌%◌, ◌<◌, ◌≤◌, ◌^◌, ◌==◌, ◌&&◌, Bool, true, false, Option, Some, List, [], ◌∷◌, ◌++◌, length, map, take, drop, refl, sym, subst, ap, ◌∙◌, arith}
 use Rattle.std.specs.Prelude.{All, slice_get}
 use Rattle.std.specs.Str.{bytes_eq}
 use Rattle.std.proofs.lemmas.Bool.{and_parts, and_from, eqb-true, eq-eqb}
@@ -34,7 +34,6 @@ use Rattle.mount_parts.specs.FilePlaces.{place_of, places_from, sized_at}
 use Rattle.mount_parts.specs.MountView.{size_cells, stripes_of}
 use Rattle.mount_parts.specs.OpeningContents.{HaveContents, bytes_or_zeros, first_content}
 use Rattle.mount_parts.specs.Pieces.{AreCut, IsPiece, LaidStripes, first_sectors, piece_of, sectors_of}
-use Rattle.mount_parts.specs.Trims.{trimmed_in}
 use Rattle.mount_parts.specs.declared.file.FilePlace.{FilePlace}
 use Rattle.mount_parts.specs.declared.piece.Piece.{Piece}
 use Rattle.mount_parts.proofs.Cuts.{cut-pieces}

@@ -1,8 +1,8 @@
 -- The sectors of blocks are trimmed, one after another.
-use Rattle.std.proofs.Common.{◌≡◌, ℕ, zero, suc, ◌+◌, ◌-◌, ◌*◌, ◌<◌, ◌≤◌, min, Option, Some, None, List, [], ◌∷◌, ◌++◌, length, map, take, drop, refl, sym, subst, ap, ◌∙◌, arith}
-use Rattle.std.specs.Prelude.{All, slice_get, true, false}
-use Rattle.std.proofs.lemmas.List.{append-nil, append_assoc, length-append, length-replicate, length-take, map-append, replicate-append-replicate, take-replicate}
-use Rattle.std.proofs.lemmas.List.Elements.{All-append, All-cons, All-nil, All-head, All-tail}
+use Rattle.std.proofs.Common.{◌≡◌, ℕ, zero, suc, ◌+◌, ◌-◌, ◌*◌, ◌<◌, ◌≤◌, min, Option, Some, None, List, [], ◌∷◌, ◌++◌, length, take, refl, sym, subst, ap, ◌∙◌, arith}
+use Rattle.std.specs.Prelude.{All, slice_get}
+use Rattle.std.proofs.lemmas.List.{append_assoc, length-append, length-replicate, length-take, replicate-append-replicate, take-replicate}
+use Rattle.std.proofs.lemmas.List.Elements.{All-cons, All-nil, All-head, All-tail}
 use Rattle.iob_base.specs.DeviceBlock.{DeviceBlock}
 use Rattle.io_model.specs.Contents.{cut_content, zeros}
 use Rattle.io_model.specs.Kinds.{kind_at}
@@ -13,7 +13,7 @@ use Rattle.file_stripes.specs.Kinds.{kinds_from, numbers_of}
 use Rattle.file_stripes.specs.Taking.{IsWhole, sector_numbers}
 use Rattle.range_core.specs.BlockContents.{opening_bytes}
 use Rattle.range_core.specs.Cells.{cells_of, sectors_after}
-use Rattle.mount_parts.specs.Trims.{next_trimmed, trimmed, trimmed_from, trimmed_in, zeroed_past}
+use Rattle.mount_parts.specs.Trims.{next_trimmed, trimmed_from, trimmed_in, zeroed_past}
 
 -- These sectors are done, and the rest with the kinds that are left make up all
 pub record TrimsOn (size end b : ℕ) (kinds : List Kind) (done rest : List DeviceBlock) (first : ℕ) (all : List Kind) (sectors : List DeviceBlock) : Type 0 where

@@ -76,7 +76,7 @@ abbrev pub idle_of : List FileSpec → List DeviceBlock → List DeviceBlock
 idle_of [] sectors = sectors
 idle_of (f ∷ fs) sectors = []
 
--- What a seat at a pool keeps for these sectors, of so many blocks: it claims their numbers, has reserved none, and has a share of its own beside one for each stripe
+-- What a seat at a pool keeps for these sectors, of so many blocks: it claims their numbers, has reserved none, and may claim one for each block
 pub record KeepsFor (size blocks : ℕ) (sectors : List DeviceBlock) (claims : ClaimsView) : Type 0 where
   pub numbers : (f : ℕ → ℕ) → total f claims.numbers ≡ total (λ s. f s.number) sectors
   pub reserved : claims.reserved ≡ 0

@@ -1,4 +1,4 @@
-use Rattle.std.proofs.Common.{◌≡◌, ◌∙◌, ap}
+use Rattle.std.proofs.Common.{◌≡◌}
 use Rattle.std.proofs.lemmas.Result.{IfOk-weaker}
 use Rattle.turn_cell.specs.Seats.{cell_view, seat_claims, seat_view}
 use Rattle.mount_parts.specs.Pieces.{IsOpenedWith, range_with}

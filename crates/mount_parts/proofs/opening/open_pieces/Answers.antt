@@ -1,4 +1,4 @@
-use Rattle.std.proofs.Common.{◌≡◌, ℕ, ◌+◌, List, [], ◌∷◌, ◌++◌, ◌<◌, ◌≤◌, map, length, refl, ap, sym, subst, ◌∙◌, arith}
+use Rattle.std.proofs.Common.{◌≡◌, List, [], ◌∷◌, ◌++◌, map, length, ap, sym, subst, ◌∙◌, arith}
 use Rattle.std.specs.Prelude.{All}
 use Rattle.std.specs.Vec.Iter.{into_iter_items}
 use Rattle.std.proofs.lemmas.List.Elements.{All-head, All-nil, All-push}
@@ -10,7 +10,7 @@ use Rattle.turn_cell.proofs.Sums.{map-append}
 use Rattle.space_pool.specs.Seats.{pool_cell}
 use Rattle.range_core.specs.ClaimsView.{first_claims}
 use Rattle.range_core.specs.RangeView.{RangeView}
-use Rattle.mount_parts.specs.Pieces.{AreOpened, IsOpenedWith, IsPiece, KeepsFor, blocks_of, is_first_at, sectors_of}
+use Rattle.mount_parts.specs.Pieces.{AreOpened, IsOpenedWith, IsPiece, is_first_at}
 use Rattle.mount_parts.specs.declared.piece.Piece.{Piece}
 use Rattle.mount_parts.proofs.Openings.{StillOpens, opens-first, opens-last, opens-next, still-distinct, still-last, still-part, still-whole}
 use Rattle.mount_parts.proofs.opening.open_pieces.Goals as goal
@@ -112,9 +112,9 @@ returns-clause-cells c =
     let one : length (into_iter_items l.rest) ≡ 1 = (let n = l.invariant.left in let t = c.loop-test.false in let m = l.auto.counter-end in omega arith) in
     let last = subst (λ t. IsOpenedWith g c.args.cookie t (seat_view l.keeper).share p o) (ap (λ v. v.cell) l.invariant.opens.seat) c.in_ok-cell-2.ensures.cell in
     let all = opens-last g c.args.cookie home (into_iter_items c.into_iter-rest.result) (into_iter_items l.rest) (into_iter_items c.next_of-last.new.rest) p share (seat_view l.keeper) (seat_claims l.keeper).facts _ _ o
-        l.invariant.opens c.next_of-last.ensures.items one last in
+    l.invariant.opens c.next_of-last.ensures.items one last in
     let cells = ap (map (λ k. (cell_view (padded_value k)).opening)) c.in_ok-push-3.ensures.items ∙ map-append (λ k. (cell_view (padded_value k)).opening) l.cells.items (c.new-2.result ∷ [])
-        ∙ (λ j. sym (map-map (λ (v : CellView RangeView). v.opening) (λ k. cell_view (padded_value k)) l.cells.items) j ++ (cell_view (c.new-2.ensures j)).opening ∷ []) in
+    ∙ (λ j. sym (map-map (λ (v : CellView RangeView). v.opening) (λ k. cell_view (padded_value k)) l.cells.items) j ++ (cell_view (c.new-2.ensures j)).opening ∷ []) in
     subst (λ ps. AreOpened g c.args.cookie home share ps (map (λ k. (cell_view (padded_value k)).opening) c.push-2.new.self.items)) c.into_iter-rest.ensures.rest
     (subst (AreOpened g c.args.cookie home share (into_iter_items c.into_iter-rest.result)) (sym cells) all)
 
