@@ -1,6 +1,6 @@
 -- What the turns of a begin come to, try after try.
-use Rattle.std.proofs.Common.{◌≡◌, ℕ, inl, inr, Bool, true, false, All, List, [], ◌∷◌, ◌++◌, Some, None, Option, Ok, Err, refl, sym, ap, ◌∙◌, subst, append-nil}
-use Rattle.std.specs.Prelude.{◌⊎◌, IsSome, Result, if◌then◌else◌}
+use Rattle.std.proofs.Common.{◌≡◌, ℕ, inl, inr, Bool, true, false, List, [], ◌∷◌, ◌++◌, Some, None, Option, Ok, Err, refl, sym, ap, ◌∙◌, subst}
+use Rattle.std.specs.Prelude.{IsSome, Result, if◌then◌else◌}
 use Rattle.std.proofs.lemmas.List.Elements.{All-nil, All-push}
 use Rattle.iob_base.specs.declared.stamp.FileId.{FileId}
 use Rattle.io_model.specs.declared.file.Extent.{Extent}
@@ -13,9 +13,9 @@ use Rattle.range_core.specs.declared.fault.EventFault.{EventFault}
 use Rattle.range_core.specs.declared.fault.EventFault.TheVariants.{Stale}
 use Rattle.range_core.specs.declared.sample.Sample.{Sample}
 use Rattle.mount_parts.specs.MountView.{MountView}
-use Rattle.mini_fs.specs.MapTurns.{MadeTurns, MakesTurn, MapTurn, turns_of}
+use Rattle.mini_fs.specs.MapTurns.{MadeTurns, MakesTurn, turns_of}
 use Rattle.mini_fs.specs.MapTurns.MapTurn.{Look, Place, Promise, TakeBack}
-use Rattle.mini_fs.specs.Mappings.{ArePlaced, AreStale, EndsWrite, FoundHole, FoundSpace, IsDirectWrite, IsLook, IsOverwrite, IsRoundOfDirect, IsTryOfWrite, IsWrite, LackedSpace, PlaceRound, RefusedSpace, StaleTry, TakesBack, answer_in, begin_fault, begun_of, has_round, place_turns, refusal_of, stale_turns}
+use Rattle.mini_fs.specs.Mappings.{ArePlaced, AreStale, FoundHole, IsDirectWrite, IsLook, IsOverwrite, IsRoundOfDirect, IsTryOfWrite, IsWrite, LackedSpace, PlaceRound, TakesBack, answer_in, begin_fault, begun_of, has_round, place_turns, refusal_of, stale_turns}
 use Rattle.mini_fs.specs.PassView.{PassView}
 use Rattle.mini_fs.specs.declared.begun.Begun.{Begun}
 use Rattle.mini_fs.proofs.MapSteps.{make-then, turns_of-more}

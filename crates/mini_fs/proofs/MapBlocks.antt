@@ -1,5 +1,5 @@
 -- Blocks and bytes of files.
-use Rattle.std.proofs.Common.{◌≡◌, ℕ, zero, suc, ◌+◌, ◌-◌, ◌*◌, ◌<◌, ◌≤◌, min, All, List, [], ◌∷◌, get_or, Bool, true, false, refl, sym, ap, ◌∙◌, subst, arith, le-div_iff_mul-le, div-lt_iff_lt-mul, div-mul-le_self, mul-le-mul}
+use Rattle.std.proofs.Common.{◌≡◌, ℕ, zero, suc, ◌+◌, ◌-◌, ◌*◌, ◌<◌, ◌≤◌, min, All, List, [], ◌∷◌, get_or, refl, sym, ap, subst, arith, le-div_iff_mul-le, div-lt_iff_lt-mul, div-mul-le_self, mul-le-mul}
 use Rattle.std.specs.Prelude.{◌/◌, ◌%◌, ◌^◌, IsTrue, is_some}
 use Rattle.std.proofs.lemmas.List.Elements.{All-head, All-tail}
 use Rattle.iob_base.specs.Geometry.{is_block_size}
@@ -7,9 +7,9 @@ use Rattle.iob_base.specs.declared.stamp.FileId.{FileId}
 use Rattle.io_model.specs.declared.file.Kind.{Kind}
 use Rattle.io_model.specs.declared.file.Kind.TheVariants.{Hole, Delalloc, Unwritten, Mapped}
 use Rattle.iomap_core.specs.Mappings.{IsBegun, has_address}
-use Rattle.mount_parts.specs.MountView.{MountView, HasBlock, IsLaidOut, file_at, no_file}
+use Rattle.mount_parts.specs.MountView.{MountView, IsLaidOut, file_at, no_file}
 use Rattle.mount_parts.specs.declared.file.FilePlace.{FilePlace}
-use Rattle.mini_fs.specs.Mappings.{TellsFrom, address_of, begun_of, blocks_asked, file_end, type_of}
+use Rattle.mini_fs.specs.Mappings.{TellsFrom, address_of, type_of}
 use Rattle.mini_fs.specs.Turns.{block_at}
 use Rattle.mini_fs.specs.declared.begun.Begun.{Begun}
 

@@ -1,16 +1,15 @@
 -- Turns after turns, and what a look and a promise tell of a file.
-use Rattle.std.proofs.Common.{◌≡◌, ℕ, zero, suc, ◌+◌, ◌-◌, ◌*◌, ◌<◌, ◌≤◌, inl, inr, min, Bool, true, false, List, [], ◌∷◌, ◌++◌, length, set, Some, None, Option, Ok, Err, refl, sym, ap, ◌∙◌, subst, arith, append_assoc, append-nil}
-use Rattle.std.specs.Prelude.{◌/◌, ◌%◌, ◌&&◌, ◌==◌, nat_le, not, Result, IfOk, IfErr, IsSome, IsSomeAnd, slice_get, slice_set, unwrap_or, if◌then◌else◌}
+use Rattle.std.proofs.Common.{◌≡◌, ℕ, ◌+◌, ◌<◌, ◌≤◌, Bool, true, false, List, [], ◌∷◌, ◌++◌, length, set, Some, None, Ok, Err, refl, sym, ap, ◌∙◌, subst, arith, append_assoc, append-nil}
+use Rattle.std.specs.Prelude.{◌%◌, ◌&&◌, ◌==◌, nat_le, not, Result, IfOk, IfErr, IsSome, IsSomeAnd, slice_get, unwrap_or}
 use Rattle.iob_base.specs.declared.TheConstants.{WORN}
 use Rattle.iob_base.specs.declared.stamp.FileId.{FileId}
 use Rattle.iob_base.specs.declared.stamp.Mode.TheVariants.{Cached}
 use Rattle.io_model.specs.declared.file.Kind.TheVariants.{Hole}
-use Rattle.turn_cell.specs.Views.{CellView, SeatView}
+use Rattle.turn_cell.specs.Views.{SeatView}
 use Rattle.range_core.specs.Attaches.{IsRefusedFor, holes_in}
-use Rattle.range_core.specs.ClaimsView.{ClaimsView}
 use Rattle.range_core.specs.KnownSamples.{WasGiven}
-use Rattle.range_core.specs.RangeView.{LiesAt, RangeView}
-use Rattle.range_core.specs.Refusals.{preallocate_refusal, where_true, ◌orElse◌}
+use Rattle.range_core.specs.RangeView.{LiesAt}
+use Rattle.range_core.specs.Refusals.{where_true, ◌orElse◌}
 use Rattle.range_core.specs.Reserves.{reserve_fault}
 use Rattle.range_core.specs.Samples.{MaySample}
 use Rattle.range_core.specs.declared.entry.Entry.{Entry}
@@ -19,12 +18,12 @@ use Rattle.range_core.specs.declared.fault.EventFault.TheVariants.{Stale, Away, 
 use Rattle.range_core.specs.declared.sample.Sample.{Sample}
 use Rattle.mount_parts.specs.MountView.{MountView, HasBlock, IsLaidOut, file_at, stripe_at}
 use Rattle.mount_parts.proofs.Places.{set-same}
-use Rattle.mini_fs.specs.MapTurns.{MadeTurns, MakesTurn, MakesTurns, MapTurn, turns_of}
+use Rattle.mini_fs.specs.MapTurns.{MakesTurn, MakesTurns, MapTurn, turns_of}
 use Rattle.mini_fs.specs.MapTurns.MapTurn.{Look, Place, Promise}
 use Rattle.mini_fs.specs.Mappings.{IsGivenAt, LiesInStripe, begin_fault}
 use Rattle.mini_fs.specs.PassView.{PassView, claims_of}
 use Rattle.mini_fs.specs.SpaceTurns.{MayReserve}
-use Rattle.mini_fs.specs.Turns.{ReadyAt, StandAt, with_seat}
+use Rattle.mini_fs.specs.Turns.{ReadyAt}
 use Rattle.mini_fs.proofs.Ready.{run-lies, stripe-here}
 
 -- one turn

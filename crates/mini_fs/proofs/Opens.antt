@@ -1,5 +1,5 @@
 -- Mappings that a pass began and has not ended.
-use Rattle.std.proofs.Common.{◌≡◌, ℕ, List, inl, inr, Some, None, Option, Ok, Err, refl, sym, ap, ◌∙◌, subst}
+use Rattle.std.proofs.Common.{◌≡◌, ℕ, List, inl, inr, Some, None, Option, refl, sym, ap, ◌∙◌, subst}
 use Rattle.std.specs.Prelude.{IfSome}
 use Rattle.iob_base.specs.declared.stamp.FileId.{FileId}
 use Rattle.iomap_core.specs.Mappings.{IsSameMapping}

@@ -1,14 +1,11 @@
 -- That a run of blocks of a file lies in the range of its stripe, and what that range keeps of the mount.
-use Rattle.std.proofs.Common.{◌≡◌, ℕ, ◌+◌, ◌-◌, ◌*◌, ◌<◌, ◌≤◌, min, Some, length, get_or, refl, sym, ap, ◌∙◌, subst, arith}
+use Rattle.std.proofs.Common.{◌≡◌, ℕ, ◌+◌, ◌<◌, ◌≤◌, Some, arith}
 use Rattle.std.specs.Prelude.{◌/◌, ◌%◌, slice_get}
 use Rattle.std.proofs.lemmas.Option.{slice_get-get_or}
 use Rattle.iob_base.specs.declared.stamp.FileId.{FileId}
 use Rattle.turn_cell.specs.Views.{CellView}
 use Rattle.range_core.specs.RangeView.{LiesAt, RangeView}
 use Rattle.mount_parts.specs.MountView.{MountView, HasBlock, IsLaidOut, IsStripe, file_at, no_file, stripe_at}
-use Rattle.mount_parts.specs.declared.file.FilePlace.{FilePlace}
-use Rattle.mini_fs.specs.PassView.{PassView}
-use Rattle.mini_fs.specs.Turns.{ReadyAt, StandAt}
 use Rattle.mini_fs.proofs.Layouts.{has_file}
 
 module _ (m : MountView) (file : FileId) (laid : IsLaidOut m) where

@@ -1,20 +1,17 @@
 -- The turns of a range's events at space are those that a mount speaks of.
-use Rattle.std.proofs.Common.{◌≡◌, ℕ, inl, List, [], ◌∷◌, ◌++◌, Some, None, Ok, Err, refl, sym, ap, ◌∙◌, subst, arith}
-use Rattle.std.specs.Prelude.{Result, IfOk, IfErr, slice_get}
+use Rattle.std.proofs.Common.{◌≡◌, ℕ, List, ◌++◌, Ok, Err, subst}
+use Rattle.std.specs.Prelude.{Result, IfOk, IfErr}
 use Rattle.space_pool.specs.Pool.{PoolView}
 use Rattle.space_pool.specs.Seats.{pool_cell}
-use Rattle.turn_cell.specs.Views.{CellView, SeatView, Turned}
 use Rattle.range_core.specs.Attaches.{PreallocateMade, PreallocateRefused, PreallocateTurned}
-use Rattle.range_core.specs.ClaimsView.{ClaimsView, MayTurn}
+use Rattle.range_core.specs.ClaimsView.{ClaimsView}
 use Rattle.range_core.specs.RangeView.{RangeView}
 use Rattle.range_core.specs.Reserves.{ReserveTurned, UnreserveTurned}
-use Rattle.range_core.specs.Samples.{GaveSample}
 use Rattle.range_core.specs.declared.entry.Entry.{Entry}
 use Rattle.range_core.specs.declared.fault.EventFault.{EventFault}
 use Rattle.range_core.specs.declared.range.attach.PreallocateRun.{PreallocateRun}
 use Rattle.range_core.specs.declared.range.reserve.ReserveRun.{ReserveRun}
 use Rattle.range_core.specs.declared.range.reserve.UnreserveRun.{UnreserveRun}
-use Rattle.range_core.specs.declared.range.sample.SampleRun.{SampleRun}
 use Rattle.range_core.specs.declared.sample.Sample.{Sample}
 use Rattle.mount_parts.specs.MountView.{MountView}
 use Rattle.mini_fs.specs.PassView.{PassView}

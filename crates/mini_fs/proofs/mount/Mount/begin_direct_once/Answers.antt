@@ -1,4 +1,4 @@
-use Rattle.std.proofs.Common.{◌≡◌, false, true, sym, ap, ◌∙◌, subst}
+use Rattle.std.proofs.Common.{◌≡◌, false, true, sym, ◌∙◌, subst}
 use Rattle.range_core.specs.Kinds.{has_space}
 use Rattle.mini_fs.specs.MapTurns.{MadeTurns}
 use Rattle.mini_fs.specs.Mappings.{IsRoundOfDirect}

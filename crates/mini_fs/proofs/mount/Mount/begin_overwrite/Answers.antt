@@ -1,4 +1,4 @@
-use Rattle.std.proofs.Common.{◌≡◌, Ok, Err, false, true, if◌then◌else◌, sym, ap, ◌∙◌, subst}
+use Rattle.std.proofs.Common.{◌≡◌, Ok, Err, false, true, if◌then◌else◌, sym, ap, ◌∙◌}
 use Rattle.iomap_core.specs.declared.ops.BeginFault.TheVariants.{NotOverwrite}
 use Rattle.range_core.specs.Kinds.{is_mapped}
 use Rattle.mini_fs.specs.Mappings.{begun_of}

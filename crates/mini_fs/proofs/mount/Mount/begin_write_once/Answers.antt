@@ -1,10 +1,7 @@
-use Rattle.std.proofs.Common.{◌≡◌, false, true, sym, ap, ◌∙◌, subst}
-use Rattle.std.specs.Prelude.{Option, Result}
-use Rattle.iomap_core.specs.declared.ops.BeginFault.{BeginFault}
+use Rattle.std.proofs.Common.{◌≡◌, false, true, sym, ◌∙◌, subst}
 use Rattle.range_core.specs.Kinds.{is_hole}
 use Rattle.mini_fs.specs.MapTurns.{MadeTurns}
-use Rattle.mini_fs.specs.Mappings.{IsTryOfWrite, refusal_of}
-use Rattle.mini_fs.specs.declared.begun.Begun.{Begun}
+use Rattle.mini_fs.specs.Mappings.{IsTryOfWrite}
 use Rattle.mini_fs.proofs.Begins.{hole-is, made-promise, made-refusal, made-used}
 use Rattle.mini_fs.proofs.mount.Mount.begin_write_once.Goals as goal
 

@@ -1,5 +1,5 @@
-use Rattle.std.proofs.Common.{◌≤◌, ◌+◌, arith}
-use Rattle.mini_fs.proofs.MapBlocks.{blocks-few, size-most}
+use Rattle.std.proofs.Common.{arith}
+use Rattle.mini_fs.proofs.MapBlocks.{blocks-few}
 use Rattle.mini_fs.proofs.mount.Mount.begun.Goals as goal
 
 pub bytes_of-requires : goal.bytes_of-requires

@@ -1,4 +1,4 @@
-use Rattle.std.proofs.Common.{◌≤◌, ◌<◌, ◌+◌, arith}
+use Rattle.std.proofs.Common.{arith}
 use Rattle.mini_fs.proofs.MapSteps.{place-faults, run-ready}
 use Rattle.mini_fs.proofs.mount.Mount.place.Goals as goal
 

@@ -1,4 +1,4 @@
-use Rattle.std.proofs.Common.{◌≡◌, refl, sym, ap, ◌∙◌}
+use Rattle.std.proofs.Common.{refl, sym, ap, ◌∙◌}
 use Rattle.space_pool.specs.Pool.{PoolView}
 use Rattle.turn_cell.specs.Views.{CellView}
 use Rattle.mount_parts.specs.MountView.{stripe_at}

@@ -1,4 +1,4 @@
-use Rattle.std.proofs.Common.{◌≤◌, ◌<◌, ◌+◌, arith}
+use Rattle.std.proofs.Common.{arith}
 use Rattle.mini_fs.proofs.MapSteps.{promise-faults, promise-lies, promise-ready}
 use Rattle.mini_fs.proofs.mount.Mount.promise.Goals as goal
 
