@@ -41,31 +41,31 @@ other-number a b n = false_from_ne_true (a == b) (λ e. n (eqb-true a b e))
 
 same-seat : (k : ℕ) (a : Act) (s : SeatView Entry) → seen_in k (a ∷ []) ≡ [] → made_in k (a ∷ []) ≡ [] → opened_in k (a ∷ []) ≡ 0 → closed_in k (a ∷ []) ≡ 0 → SeatActed k (a ∷ []) s s
 same-seat k a s none nobody out back = record {
-    cell = refl;
-    seen = sym (append-nil s.seen) ∙ ap (λ l. s.seen ++ l) (sym none);
-    made = sym (append-nil s.made) ∙ ap (λ l. s.made ++ l) (sym nobody);
-    share = omega (arith, out, back);
-    refused = ([], append-nil s.refused);
-  }
+  cell = refl;
+  seen = sym (append-nil s.seen) ∙ ap (λ l. s.seen ++ l) (sym none);
+  made = sym (append-nil s.made) ∙ ap (λ l. s.made ++ l) (sym nobody);
+  share = omega (arith, out, back);
+  refused = ([], append-nil s.refused);
+}
 
 turned-seat : (k : ℕ) (others : List Entry) (own : Entry) (before after : SeatView Entry) → after.cell ≡ before.cell → after.share ≡ before.share → Begins before.refused after.refused
     → after.seen ≡ (before.seen ++ others) ++ own ∷ [] → after.made ≡ before.made ++ own ∷ [] → SeatActed k (Turn k others own ∷ []) before after
 turned-seat k others own before after cell share refused seen made = record {
-    cell = cell;
-    seen = seen ∙ append_assoc before.seen others (own ∷ []) ∙ ap (λ l. before.seen ++ l) (sym (append-nil (others ++ own ∷ [])) ∙ ap (λ b. (if b then others ++ own ∷ [] else []) ++ []) (sym (same-number k)));
-    made = made ∙ ap (λ b. before.made ++ ((if b then own ∷ [] else []) ++ [])) (sym (same-number k));
-    share = omega (arith, share);
-    refused = refused;
-  }
+  cell = cell;
+  seen = seen ∙ append_assoc before.seen others (own ∷ []) ∙ ap (λ l. before.seen ++ l) (sym (append-nil (others ++ own ∷ [])) ∙ ap (λ b. (if b then others ++ own ∷ [] else []) ++ []) (sym (same-number k)));
+  made = made ∙ ap (λ b. before.made ++ ((if b then own ∷ [] else []) ++ [])) (sym (same-number k));
+  share = omega (arith, share);
+  refused = refused;
+}
 
 busy-seat : (k stripe word : ℕ) (before after : SeatView Entry) → FoundHeld before word after → SeatActed k (Busy stripe word ∷ []) before after
 busy-seat k stripe word before after found = record {
-    cell = ap (λ (v : SeatView Entry). v.cell) found.seat_is;
-    seen = ap (λ (v : SeatView Entry). v.seen) found.seat_is ∙ sym (append-nil before.seen);
-    made = ap (λ (v : SeatView Entry). v.made) found.seat_is ∙ sym (append-nil before.made);
-    share = ap (λ (v : SeatView Entry). v.share + 0) found.seat_is;
-    refused = ((word, found.turn) ∷ [], sym (ap (λ (v : SeatView Entry). v.refused) found.seat_is));
-  }
+  cell = ap (λ (v : SeatView Entry). v.cell) found.seat_is;
+  seen = ap (λ (v : SeatView Entry). v.seen) found.seat_is ∙ sym (append-nil before.seen);
+  made = ap (λ (v : SeatView Entry). v.made) found.seat_is ∙ sym (append-nil before.made);
+  share = ap (λ (v : SeatView Entry). v.share + 0) found.seat_is;
+  refused = ((word, found.turn) ∷ [], sym (ap (λ (v : SeatView Entry). v.refused) found.seat_is));
+}
 
 opened-here : (stripe k : ℕ) → stripe ≡ k → opened_in k (Open stripe ∷ []) ≡ 1
 opened-here stripe k e = ap (λ b. (if b then 1 else 0) + 0) (eq-eqb stripe k e)
@@ -75,62 +75,67 @@ closed-here stripe k e = ap (λ b. (if b then 1 else 0) + 0) (eq-eqb stripe k e)
 
 opened-seat : (k stripe : ℕ) (seat : SeatView Entry) → stripe ≡ k → 1 < seat.share → SeatActed k (Open stripe ∷ []) seat (kept_part seat 1)
 opened-seat k stripe seat here more = record {
-    cell = refl;
-    seen = sym (append-nil seat.seen);
-    made = sym (append-nil seat.made);
-    share = omega (arith, opened-here stripe k here, more);
-    refused = ([], append-nil seat.refused);
-  }
+  cell = refl;
+  seen = sym (append-nil seat.seen);
+  made = sym (append-nil seat.made);
+  share = omega (arith, opened-here stripe k here, more);
+  refused = ([], append-nil seat.refused);
+}
 
 closed-seat : (k stripe : ℕ) (seat : SeatView Entry) → stripe ≡ k → SeatActed k (Close stripe ∷ []) seat (with_share seat 1)
 closed-seat k stripe seat here = record {
-    cell = refl;
-    seen = sym (append-nil seat.seen);
-    made = sym (append-nil seat.made);
-    share = omega (arith, closed-here stripe k here);
-    refused = ([], append-nil seat.refused);
-  }
+  cell = refl;
+  seen = sym (append-nil seat.seen);
+  made = sym (append-nil seat.made);
+  share = omega (arith, closed-here stripe k here);
+  refused = ([], append-nil seat.refused);
+}
 
 -- one act, at a stripe where the pass has a seat
 pub act-seat : (k : ℕ) (a : Act) (p q : PassView) (s : SeatView Entry) → Acts a p q → slice_get p.stripes k ≡ Some s → (t : SeatView Entry) × (slice_get q.stripes k ≡ Some t) × SeatActed k (a ∷ []) s t
 act-seat k (Turn stripe others own) p q s did here = elim (cases_eq stripe k) [
-    | inl e ↦
-        let same : did.before ≡ s = (let h : slice_get p.stripes stripe ≡ Some s = ap (λ n. slice_get p.stripes n) e ∙ here in let g = did.here in cc) in
-        (did.after,
-         ap (λ (v : PassView). slice_get v.stripes k) did.pass_is ∙ ap (λ n. slice_get (set p.stripes n did.after) k) e ∙ set-same p.stripes k s did.after here,
-         subst (λ n. SeatActed k (Turn n others own ∷ []) s did.after) (sym e)
-         (subst (λ b. SeatActed k (Turn k others own ∷ []) b did.after) same (turned-seat k others own did.before did.after did.cell did.share did.refused did.seen did.made)))
-    | inr n ↦
-        let no : (stripe == k) ≡ false = other-number stripe k n in
-        (s,
-         ap (λ (v : PassView). slice_get v.stripes k) did.pass_is ∙ set-other p.stripes stripe k did.after (λ e. n (sym e)) ∙ here,
-         same-seat k (Turn stripe others own) s (ap (λ b. (if b then others ++ own ∷ [] else []) ++ []) no) (ap (λ b. (if b then own ∷ [] else []) ++ []) no) refl refl)
-  ]
+  | inl e ↦
+      let same : did.before ≡ s = (let h : slice_get p.stripes stripe ≡ Some s = ap (λ n. slice_get p.stripes n) e ∙ here in let g = did.here in cc) in (
+        did.after,
+        ap (λ (v : PassView). slice_get v.stripes k) did.pass_is ∙ ap (λ n. slice_get (set p.stripes n did.after) k) e ∙ set-same p.stripes k s did.after here,
+        subst (λ n. SeatActed k (Turn n others own ∷ []) s did.after) (sym e)
+            (subst (λ b. SeatActed k (Turn k others own ∷ []) b did.after) same (turned-seat k others own did.before did.after did.cell did.share did.refused did.seen did.made)),
+      )
+  | inr n ↦
+      let no : (stripe == k) ≡ false = other-number stripe k n in (
+        s,
+        ap (λ (v : PassView). slice_get v.stripes k) did.pass_is ∙ set-other p.stripes stripe k did.after (λ e. n (sym e)) ∙ here,
+        same-seat k (Turn stripe others own) s (ap (λ b. (if b then others ++ own ∷ [] else []) ++ []) no) (ap (λ b. (if b then own ∷ [] else []) ++ []) no) refl refl,
+      )
+]
 act-seat k (SizeTurn cell others own) p q s did here = (s, ap (λ (v : PassView). slice_get v.stripes k) did.pass_is ∙ here, same-seat k (SizeTurn cell others own) s refl refl refl refl)
 act-seat k (Busy stripe word) p q s did here = elim (cases_eq stripe k) [
-    | inl e ↦
-        let same : did.before ≡ s = (let h : slice_get p.stripes stripe ≡ Some s = ap (λ n. slice_get p.stripes n) e ∙ here in let g = did.here in cc) in
-        (did.after,
-         ap (λ (v : PassView). slice_get v.stripes k) did.pass_is ∙ ap (λ n. slice_get (set p.stripes n did.after) k) e ∙ set-same p.stripes k s did.after here,
-         subst (λ b. SeatActed k (Busy stripe word ∷ []) b did.after) same (busy-seat k stripe word did.before did.after did.found))
-    | inr n ↦ (s, ap (λ (v : PassView). slice_get v.stripes k) did.pass_is ∙ set-other p.stripes stripe k did.after (λ e. n (sym e)) ∙ here, same-seat k (Busy stripe word) s refl refl refl refl)
-  ]
+  | inl e ↦
+      let same : did.before ≡ s = (let h : slice_get p.stripes stripe ≡ Some s = ap (λ n. slice_get p.stripes n) e ∙ here in let g = did.here in cc) in (
+        did.after,
+        ap (λ (v : PassView). slice_get v.stripes k) did.pass_is ∙ ap (λ n. slice_get (set p.stripes n did.after) k) e ∙ set-same p.stripes k s did.after here,
+        subst (λ b. SeatActed k (Busy stripe word ∷ []) b did.after) same (busy-seat k stripe word did.before did.after did.found),
+      )
+  | inr n ↦ (s, ap (λ (v : PassView). slice_get v.stripes k) did.pass_is ∙ set-other p.stripes stripe k did.after (λ e. n (sym e)) ∙ here, same-seat k (Busy stripe word) s refl refl refl refl)
+]
 act-seat k (Open stripe) p q s did here = elim (cases_eq stripe k) [
-    | inl e ↦
-        let same : did.seat ≡ s = (let h : slice_get p.stripes stripe ≡ Some s = ap (λ n. slice_get p.stripes n) e ∙ here in let g = did.here in cc) in
-        (kept_part did.seat 1,
-         ap (λ (v : PassView). slice_get v.stripes k) did.pass_is ∙ ap (λ n. slice_get (set p.stripes n (kept_part did.seat 1)) k) e ∙ set-same p.stripes k s (kept_part did.seat 1) here,
-         subst (λ b. SeatActed k (Open stripe ∷ []) b (kept_part did.seat 1)) same (opened-seat k stripe did.seat e did.more))
-    | inr n ↦ (s, ap (λ (v : PassView). slice_get v.stripes k) did.pass_is ∙ set-other p.stripes stripe k (kept_part did.seat 1) (λ e. n (sym e)) ∙ here, same-seat k (Open stripe) s refl refl (ap (λ b. (if b then 1 else 0) + 0) (other-number stripe k n)) refl)
-  ]
+  | inl e ↦
+      let same : did.seat ≡ s = (let h : slice_get p.stripes stripe ≡ Some s = ap (λ n. slice_get p.stripes n) e ∙ here in let g = did.here in cc) in (
+        kept_part did.seat 1,
+        ap (λ (v : PassView). slice_get v.stripes k) did.pass_is ∙ ap (λ n. slice_get (set p.stripes n (kept_part did.seat 1)) k) e ∙ set-same p.stripes k s (kept_part did.seat 1) here,
+        subst (λ b. SeatActed k (Open stripe ∷ []) b (kept_part did.seat 1)) same (opened-seat k stripe did.seat e did.more),
+      )
+  | inr n ↦ (s, ap (λ (v : PassView). slice_get v.stripes k) did.pass_is ∙ set-other p.stripes stripe k (kept_part did.seat 1) (λ e. n (sym e)) ∙ here, same-seat k (Open stripe) s refl refl (ap (λ b. (if b then 1 else 0) + 0) (other-number stripe k n)) refl)
+]
 act-seat k (Close stripe) p q s did here = elim (cases_eq stripe k) [
-    | inl e ↦
-        let same : did.seat ≡ s = (let h : slice_get p.stripes stripe ≡ Some s = ap (λ n. slice_get p.stripes n) e ∙ here in let g = did.here in cc) in
-        (with_share did.seat 1,
-         ap (λ (v : PassView). slice_get v.stripes k) did.pass_is ∙ ap (λ n. slice_get (set p.stripes n (with_share did.seat 1)) k) e ∙ set-same p.stripes k s (with_share did.seat 1) here,
-         subst (λ b. SeatActed k (Close stripe ∷ []) b (with_share did.seat 1)) same (closed-seat k stripe did.seat e))
-    | inr n ↦ (s, ap (λ (v : PassView). slice_get v.stripes k) did.pass_is ∙ set-other p.stripes stripe k (with_share did.seat 1) (λ e. n (sym e)) ∙ here, same-seat k (Close stripe) s refl refl refl (ap (λ b. (if b then 1 else 0) + 0) (other-number stripe k n)))
-  ]
+  | inl e ↦
+      let same : did.seat ≡ s = (let h : slice_get p.stripes stripe ≡ Some s = ap (λ n. slice_get p.stripes n) e ∙ here in let g = did.here in cc) in (
+        with_share did.seat 1,
+        ap (λ (v : PassView). slice_get v.stripes k) did.pass_is ∙ ap (λ n. slice_get (set p.stripes n (with_share did.seat 1)) k) e ∙ set-same p.stripes k s (with_share did.seat 1) here,
+        subst (λ b. SeatActed k (Close stripe ∷ []) b (with_share did.seat 1)) same (closed-seat k stripe did.seat e),
+      )
+  | inr n ↦ (s, ap (λ (v : PassView). slice_get v.stripes k) did.pass_is ∙ set-other p.stripes stripe k (with_share did.seat 1) (λ e. n (sym e)) ∙ here, same-seat k (Close stripe) s refl refl refl (ap (λ b. (if b then 1 else 0) + 0) (other-number stripe k n)))
+]
 act-seat k (Take file c before after) p q s did here = (s, ap (λ (v : PassView). slice_get v.stripes k) did.pass_is ∙ here, same-seat k (Take file c before after) s refl refl refl refl)
 act-seat k (Refused file c before after) p q s did here = (s, ap (λ (v : PassView). slice_get v.stripes k) did.pass_is ∙ here, same-seat k (Refused file c before after) s refl refl refl refl)
 act-seat k (Leave file c before after) p q s did here = (s, ap (λ (v : PassView). slice_get v.stripes k) did.pass_is ∙ here, same-seat k (Leave file c before after) s refl refl refl refl)
@@ -193,14 +198,17 @@ acted-seat k (a ∷ acts) p q s (r, one, rest) here =
     let first = act-seat k a p r s one here in
     let t = first.0 in
     let more = acted-seat k acts r q t rest first.1 in
-    let u = more.0 in
-    (u, more.1, record {
-      cell = more.2.cell ∙ first.2.cell;
-      seen = more.2.seen ∙ ap (λ l. l ++ seen_in k acts) first.2.seen ∙ append_assoc s.seen (seen_in k (a ∷ [])) (seen_in k acts) ∙ ap (λ l. s.seen ++ l) (sym (seen-first k a acts));
-      made = more.2.made ∙ ap (λ l. l ++ made_in k acts) first.2.made ∙ append_assoc s.made (made_in k (a ∷ [])) (made_in k acts) ∙ ap (λ l. s.made ++ l) (sym (made-first k a acts));
-      share = omega (arith, more.2.share, first.2.share, opened-first k a acts, closed-first k a acts);
-      refused = begins-then _ _ _ first.2.refused more.2.refused;
-    })
+    let u = more.0 in (
+      u,
+      more.1,
+      record {
+        cell = more.2.cell ∙ first.2.cell;
+        seen = more.2.seen ∙ ap (λ l. l ++ seen_in k acts) first.2.seen ∙ append_assoc s.seen (seen_in k (a ∷ [])) (seen_in k acts) ∙ ap (λ l. s.seen ++ l) (sym (seen-first k a acts));
+        made = more.2.made ∙ ap (λ l. l ++ made_in k acts) first.2.made ∙ append_assoc s.made (made_in k (a ∷ [])) (made_in k acts) ∙ ap (λ l. s.made ++ l) (sym (made-first k a acts));
+        share = omega (arith, more.2.share, first.2.share, opened-first k a acts, closed-first k a acts);
+        refused = begins-then _ _ _ first.2.refused more.2.refused;
+      },
+    )
 
 -- The calls of a mount are acts
 module _ {does : RangeView → List Entry → RangeView → RangeView → Entry → Type 0} {m : MountView} {stripe : ℕ} {claims left : ClaimsView} {p q : PassView} (t : TurnsAt does m stripe claims left p q) where

@@ -55,7 +55,7 @@ size_acts-append (Note begun ∷ acts) more = size_acts-append acts more
 size_acts-append (Number call ∷ acts) more = size_acts-append acts more
 
 pub opened-append : (k : ℕ) (acts more : List Act) → opened_in k (acts ++ more) ≡ opened_in k acts + opened_in k more
-opened-append k [] more = refl
+opened-append k [] more = omega arith
 opened-append k (Turn stripe others own ∷ acts) more = opened-append k acts more
 opened-append k (SizeTurn cell others own ∷ acts) more = opened-append k acts more
 opened-append k (Busy stripe word ∷ acts) more = opened-append k acts more
@@ -68,7 +68,7 @@ opened-append k (Note begun ∷ acts) more = opened-append k acts more
 opened-append k (Number call ∷ acts) more = opened-append k acts more
 
 pub closed-append : (k : ℕ) (acts more : List Act) → closed_in k (acts ++ more) ≡ closed_in k acts + closed_in k more
-closed-append k [] more = refl
+closed-append k [] more = omega arith
 closed-append k (Turn stripe others own ∷ acts) more = closed-append k acts more
 closed-append k (SizeTurn cell others own ∷ acts) more = closed-append k acts more
 closed-append k (Busy stripe word ∷ acts) more = closed-append k acts more
@@ -87,9 +87,9 @@ pub call-none : (m : MountView) (file : FileId) (may : Event → Bool) (p : Pass
 call-none m file may p = record { acted = refl; at_file = All-nil (IsActAt m file); made = All-nil (λ (e : Entry). IsTrue (may e.event)); closed = λ stripe. refl }
 
 pub call-then : (m : MountView) (file : FileId) (may : Event → Bool) (p q r : PassView) (acts more : List Act) → CallActs m file may p q acts → CallActs m file may q r more → CallActs m file may p r (acts ++ more)
-call-then m file may p q r acts more first then = record {
-    acted = acted-then acts more p q r first.acted then.acted;
-    at_file = All-append (IsActAt m file) acts more first.at_file then.at_file;
-    made = subst (All (λ (e : Entry). IsTrue (may e.event))) (sym (own_entries-append acts more)) (All-append (λ (e : Entry). IsTrue (may e.event)) (own_entries acts) (own_entries more) first.made then.made);
-    closed = λ stripe. opened-append stripe acts more ∙ (let a = first.closed stripe in let b = then.closed stripe in let e : opened_in stripe acts + opened_in stripe more ≡ closed_in stripe acts + closed_in stripe more = omega (arith, a, b) in e) ∙ sym (closed-append stripe acts more);
-  }
+call-then m file may p q r acts more first later = record {
+  acted = acted-then acts more p q r first.acted later.acted;
+  at_file = All-append (IsActAt m file) acts more first.at_file later.at_file;
+  made = subst (All (λ (e : Entry). IsTrue (may e.event))) (sym (own_entries-append acts more)) (All-append (λ (e : Entry). IsTrue (may e.event)) (own_entries acts) (own_entries more) first.made later.made);
+  closed = λ stripe. opened-append stripe acts more ∙ (let a = first.closed stripe in let b = later.closed stripe in let e : opened_in stripe acts + opened_in stripe more ≡ closed_in stripe acts + closed_in stripe more = omega (arith, a, b) in e) ∙ sym (closed-append stripe acts more);
+}

@@ -15,7 +15,7 @@ use Rattle.mini_fs.specs.declared.begun.Begun.{Begun}
 
 -- a pass of the mount is one whatever mapping it notes
 pub of-noted : (m : MountView) (p q : PassView) (begun : Option Begun) → IsPassOf m p → q ≡ with_begun p begun → IsPassOf m q
-of-noted m p q begun of is = subst (IsPassOf m) (sym is) (record { stripes = of.stripes; sizes = of.sizes; locks = of.locks })
+of-noted m p q begun of is = subst (IsPassOf m) (sym is) (record { stripes = of.stripes; sizes = of.sizes; locks = of.locks; queue = of.queue })
 
 tells-from : (m : MountView) (file : FileId) (b : ℕ) (begun : Begun) → TellsFrom m file b begun → Tells m begun
 tells-from m file b begun t =

@@ -51,3 +51,6 @@ returns-clause-of c =
     firsts-of _ _ (e.stripe_seats ∙ sym (map-map is_first_at (λ k. cell_view (padded_value k)) laid.stripes.items))
     (sizes-seen seat_view seat_claims laid.size_seats.items (map (λ k. cell_view (padded_value k)) laid.sizes.items) (e.size_seats ∙ sym (map-map is_first_at (λ k. cell_view (padded_value k)) laid.sizes.items)) e.size_claims)
     e.lock_seats c.in_ok-queue.ensures.seats
+
+pub invariant_of-mount : goal.invariant_of-mount
+invariant_of-mount c = c.in_ok-laid.ensures.laid c.in_ok-queue.queue
