@@ -3,7 +3,7 @@ mod ShelfKeeps
 mod ShelfMoves
 mod ShelfCalls
 mod QueueKeeps
-mod Growing
+pub mod Growing
 mod Twice
 mod Listed
 mod Lending
