@@ -17,7 +17,7 @@ use Rattle.size_core.specs.declared.entry.SizeEntry.{SizeEntry}
 use Rattle.mount_parts.specs.MountView.{MountView}
 use Rattle.mount_parts.proofs.Places.{set-same, set-other}
 use Rattle.mini_fs.specs.Acts.{Act, Acted, Acts, SeatActed, closed_in, made_in, opened_in, seen_in}
-use Rattle.mini_fs.specs.Acts.Act.{Turn, SizeTurn, Busy, Open, Close, Take, Refused, Leave, Note, Number}
+use Rattle.mini_fs.specs.Acts.Act.{Turn, SizeTurn, Busy, Open, Close, Take, Refused, Leave, Run, Note, Number}
 use Rattle.mini_fs.specs.Holds.{BringsBack, HoldView, IsHoldOf, TakesOut}
 use Rattle.mini_fs.specs.PassView.{PassView, share_at, share_in}
 use Rattle.mini_fs.specs.SizeTurns.{TurnsAtSize}
@@ -139,6 +139,7 @@ act-seat k (Close stripe) p q s did here = elim (cases_eq stripe k) [
 act-seat k (Take file c before after) p q s did here = (s, ap (λ (v : PassView). slice_get v.stripes k) did.pass_is ∙ here, same-seat k (Take file c before after) s refl refl refl refl)
 act-seat k (Refused file c before after) p q s did here = (s, ap (λ (v : PassView). slice_get v.stripes k) did.pass_is ∙ here, same-seat k (Refused file c before after) s refl refl refl refl)
 act-seat k (Leave file c before after) p q s did here = (s, ap (λ (v : PassView). slice_get v.stripes k) did.pass_is ∙ here, same-seat k (Leave file c before after) s refl refl refl refl)
+act-seat k (Run bios) p q s did here = (s, ap (λ (v : PassView). slice_get v.stripes k) did.pass_is ∙ here, same-seat k (Run bios) s refl refl refl refl)
 act-seat k (Note begun) p q s did here = (s, ap (λ (v : PassView). slice_get v.stripes k) did ∙ here, same-seat k (Note begun) s refl refl refl refl)
 act-seat k (Number call) p q s did here = (s, ap (λ (v : PassView). slice_get v.stripes k) did ∙ here, same-seat k (Number call) s refl refl refl refl)
 
@@ -152,6 +153,7 @@ seen-first k (Close stripe) acts = refl
 seen-first k (Take file c before after) acts = refl
 seen-first k (Refused file c before after) acts = refl
 seen-first k (Leave file c before after) acts = refl
+seen-first k (Run bios) acts = refl
 seen-first k (Note begun) acts = refl
 seen-first k (Number call) acts = refl
 
@@ -164,6 +166,7 @@ made-first k (Close stripe) acts = refl
 made-first k (Take file c before after) acts = refl
 made-first k (Refused file c before after) acts = refl
 made-first k (Leave file c before after) acts = refl
+made-first k (Run bios) acts = refl
 made-first k (Note begun) acts = refl
 made-first k (Number call) acts = refl
 
@@ -176,6 +179,7 @@ opened-first k (Close stripe) acts = omega arith
 opened-first k (Take file c before after) acts = omega arith
 opened-first k (Refused file c before after) acts = omega arith
 opened-first k (Leave file c before after) acts = omega arith
+opened-first k (Run bios) acts = omega arith
 opened-first k (Note begun) acts = omega arith
 opened-first k (Number call) acts = omega arith
 
@@ -188,6 +192,7 @@ closed-first k (Close stripe) acts = omega arith
 closed-first k (Take file c before after) acts = omega arith
 closed-first k (Refused file c before after) acts = omega arith
 closed-first k (Leave file c before after) acts = omega arith
+closed-first k (Run bios) acts = omega arith
 closed-first k (Note begun) acts = omega arith
 closed-first k (Number call) acts = omega arith
 

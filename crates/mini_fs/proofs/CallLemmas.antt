@@ -10,7 +10,7 @@ use Rattle.range_core.specs.declared.entry.Entry.{Entry}
 use Rattle.range_core.specs.declared.entry.Event.{Event}
 use Rattle.mount_parts.specs.MountView.{MountView}
 use Rattle.mini_fs.specs.Acts.{Act, Acted, closed_in, made_in, opened_in, own_entries, seen_in}
-use Rattle.mini_fs.specs.Acts.Act.{Turn, SizeTurn, Busy, Open, Close, Take, Refused, Leave, Note, Number}
+use Rattle.mini_fs.specs.Acts.Act.{Turn, SizeTurn, Busy, Open, Close, Take, Refused, Leave, Run, Note, Number}
 use Rattle.mini_fs.specs.CallActs.{CallActs, IsActAt, loans_in, lock_acts, size_acts}
 use Rattle.mini_fs.specs.PassView.{PassView}
 use Rattle.mini_fs.proofs.ActLemmas.{acted-then}
@@ -25,6 +25,7 @@ own_entries-append (Close stripe ∷ acts) more = own_entries-append acts more
 own_entries-append (Take file c before after ∷ acts) more = own_entries-append acts more
 own_entries-append (Refused file c before after ∷ acts) more = own_entries-append acts more
 own_entries-append (Leave file c before after ∷ acts) more = own_entries-append acts more
+own_entries-append (Run bios ∷ acts) more = own_entries-append acts more
 own_entries-append (Note begun ∷ acts) more = own_entries-append acts more
 own_entries-append (Number call ∷ acts) more = own_entries-append acts more
 
@@ -38,6 +39,7 @@ lock_acts-append (Close stripe ∷ acts) more = lock_acts-append acts more
 lock_acts-append (Take file c before after ∷ acts) more = ap (λ l. Take file c before after ∷ l) (lock_acts-append acts more)
 lock_acts-append (Refused file c before after ∷ acts) more = ap (λ l. Refused file c before after ∷ l) (lock_acts-append acts more)
 lock_acts-append (Leave file c before after ∷ acts) more = ap (λ l. Leave file c before after ∷ l) (lock_acts-append acts more)
+lock_acts-append (Run bios ∷ acts) more = lock_acts-append acts more
 lock_acts-append (Note begun ∷ acts) more = lock_acts-append acts more
 lock_acts-append (Number call ∷ acts) more = lock_acts-append acts more
 
@@ -51,6 +53,7 @@ size_acts-append (Close stripe ∷ acts) more = size_acts-append acts more
 size_acts-append (Take file c before after ∷ acts) more = size_acts-append acts more
 size_acts-append (Refused file c before after ∷ acts) more = size_acts-append acts more
 size_acts-append (Leave file c before after ∷ acts) more = size_acts-append acts more
+size_acts-append (Run bios ∷ acts) more = size_acts-append acts more
 size_acts-append (Note begun ∷ acts) more = size_acts-append acts more
 size_acts-append (Number call ∷ acts) more = size_acts-append acts more
 
@@ -64,6 +67,7 @@ opened-append k (Close stripe ∷ acts) more = opened-append k acts more
 opened-append k (Take file c before after ∷ acts) more = opened-append k acts more
 opened-append k (Refused file c before after ∷ acts) more = opened-append k acts more
 opened-append k (Leave file c before after ∷ acts) more = opened-append k acts more
+opened-append k (Run bios ∷ acts) more = opened-append k acts more
 opened-append k (Note begun ∷ acts) more = opened-append k acts more
 opened-append k (Number call ∷ acts) more = opened-append k acts more
 
@@ -77,6 +81,7 @@ closed-append k (Close stripe ∷ acts) more = (let rest = closed-append k acts 
 closed-append k (Take file c before after ∷ acts) more = closed-append k acts more
 closed-append k (Refused file c before after ∷ acts) more = closed-append k acts more
 closed-append k (Leave file c before after ∷ acts) more = closed-append k acts more
+closed-append k (Run bios ∷ acts) more = closed-append k acts more
 closed-append k (Note begun ∷ acts) more = closed-append k acts more
 closed-append k (Number call ∷ acts) more = closed-append k acts more
 

@@ -27,3 +27,4 @@ pub mod MountCrossing
 pub mod Unmounting
 pub mod KeptNumbers
 pub mod CallLemmas
+pub mod PassActs

@@ -1,6 +1,7 @@
 -- What a pass did at a mount, one act after another.
 use Rattle.std.specs.Prelude.{◌≡◌, ℕ, ◌+◌, ◌<◌, ◌==◌, if◌then◌else◌, Option, Some, None, List, [], ◌∷◌, ◌++◌, slice_get}
 use Rattle.iob_base.specs.declared.stamp.FileId.{FileId}
+use Rattle.bio_pages.specs.Queue.{Grew}
 use Rattle.inode_lock.specs.Calls.{IsLeft, IsRefused, IsWon}
 use Rattle.inode_lock.specs.View.{LockView}
 use Rattle.inode_lock.specs.declared.word.Class.{Class}
@@ -8,14 +9,15 @@ use Rattle.turn_cell.specs.Stakes.{Begins}
 use Rattle.turn_cell.specs.Views.{SeatView, kept_part}
 use Rattle.range_core.specs.declared.entry.Entry.{Entry}
 use Rattle.size_core.specs.declared.entry.SizeEntry.{SizeEntry}
+use Rattle.mini_fs.specs.BioSeats.{HavePlenty, KeepsShelves}
 use Rattle.mini_fs.specs.Holds.{with_lock}
-use Rattle.mini_fs.specs.PassView.{PassView, SizeSeat}
+use Rattle.mini_fs.specs.PassView.{PassView, SizeSeat, with_bios}
 use Rattle.mini_fs.specs.SizeTurns.{with_size}
 use Rattle.mini_fs.specs.Tickets.{with_share}
 use Rattle.mini_fs.specs.Turns.{BusyAt, with_seat}
 use Rattle.mini_fs.specs.declared.begun.Begun.{Begun}
 
--- An act of a pass: a turn at a stripe or at a size, before which others had made entries there; a try that found the gate of a stripe held; a ticket opened, or closed; a class of a file's lock taken, refused or left, by a seat that was as the first view says and then as the second; a mapping noted, or none; the number of a call
+-- An act of a pass: a turn at a stripe or at a size, before which others had made entries there; a try that found the gate of a stripe held; a ticket opened, or closed; a class of a file's lock taken, refused or left, by a seat that was as the first view says and then as the second; a list of so many bios run; a mapping noted, or none; the number of a call
 pub data Act : Type 0 where
   Turn : ℕ → List Entry → Entry → Act
   SizeTurn : ℕ → List SizeEntry → SizeEntry → Act
@@ -25,6 +27,7 @@ pub data Act : Type 0 where
   Take : FileId → Class → LockView → LockView → Act
   Refused : FileId → Class → LockView → LockView → Act
   Leave : FileId → Class → LockView → LockView → Act
+  Run : ℕ → Act
   Note : Option Begun → Act
   Number : ℕ → Act
 
@@ -85,6 +88,12 @@ pub record HasLeft (file : FileId) (c : Class) (before after : LockView) (p q : 
   pub left : IsLeft c before after
   pub pass_is : q ≡ with_lock p file (Some after)
 
+-- a list of so many bios was run by way of the pass's shelves and its place at the queue
+pub record HasRun (bios : ℕ) (p q : PassView) : Type 0 where
+  pub pass_is : q ≡ with_bios p q.bios
+  pub shelves : KeepsShelves bios p.bios q.bios
+  pub pushed : HavePlenty q.bios.shelves → Grew bios p.bios.queue q.bios.queue
+
 -- what of an act made the first pass the second
 abbrev pub Acts : Act → PassView → PassView → Type 0
 Acts (Turn stripe others own) p q = HasTurned stripe others own p q
@@ -95,6 +104,7 @@ Acts (Close stripe) p q = HasClosed stripe p q
 Acts (Take file c before after) p q = HasTaken file c before after p q
 Acts (Refused file c before after) p q = WasRefused file c before after p q
 Acts (Leave file c before after) p q = HasLeft file c before after p q
+Acts (Run bios) p q = HasRun bios p q
 Acts (Note begun) p q = q ≡ record p { begun = begun }
 Acts (Number call) p q = q ≡ record p { last = call }
 
@@ -138,3 +148,50 @@ pub record SeatActed (k : ℕ) (acts : List Act) (before after : SeatView Entry)
   pub made : after.made ≡ before.made ++ made_in k acts
   pub share : after.share + opened_in k acts ≡ before.share + closed_in k acts
   pub refused : Begins before.refused after.refused
+
+-- the same at a size
+abbrev pub size_seen_in : ℕ → List Act → List SizeEntry
+size_seen_in k [] = []
+size_seen_in k (SizeTurn cell others own ∷ acts) = (if cell == k then others ++ own ∷ [] else []) ++ size_seen_in k acts
+size_seen_in k (_ ∷ acts) = size_seen_in k acts
+
+abbrev pub size_made_in : ℕ → List Act → List SizeEntry
+size_made_in k [] = []
+size_made_in k (SizeTurn cell others own ∷ acts) = (if cell == k then own ∷ [] else []) ++ size_made_in k acts
+size_made_in k (_ ∷ acts) = size_made_in k acts
+
+-- What acts made of the seat at a size: it saw what stands in them, and made what of it is its own
+pub record SizeActed (k : ℕ) (acts : List Act) (before after : SizeSeat) : Type 0 where
+  pub cell : after.seat.cell ≡ before.seat.cell
+  pub share : after.seat.share ≡ before.seat.share
+  pub seen : after.seat.seen ≡ before.seat.seen ++ size_seen_in k acts
+  pub made : after.seat.made ≡ before.seat.made ++ size_made_in k acts
+  pub refused : Begins before.seat.refused after.seat.refused
+
+-- the number of the last call that was given one
+abbrev pub last_in : ℕ → List Act → ℕ
+last_in last [] = last
+last_in last (Number call ∷ acts) = last_in call acts
+last_in last (_ ∷ acts) = last_in last acts
+
+-- how many bios were run
+abbrev pub bios_in : List Act → ℕ
+bios_in [] = 0
+bios_in (Run bios ∷ acts) = bios + bios_in acts
+bios_in (_ ∷ acts) = bios_in acts
+
+-- where the seat at a file's lock is after acts at this and other locks: out with a hold, or at home
+abbrev pub lock_after : ℕ → Option LockView → List Act → Option LockView
+lock_after f place [] = place
+lock_after f place (Take file c before after ∷ acts) = lock_after f (if file.0 == f then None else place) acts
+lock_after f place (Refused file c before after ∷ acts) = lock_after f (if file.0 == f then Some after else place) acts
+lock_after f place (Leave file c before after ∷ acts) = lock_after f (if file.0 == f then Some after else place) acts
+lock_after f place (_ ∷ acts) = lock_after f place acts
+
+-- What acts made of a pass but for its seats: its caller number and its spare numbers stay, its last call is the last that was given a number, its shelves are the same with at most as much less as bios were run, and where they all have plenty left, the pass pushed as many bios or found the queue full
+pub record PassActed (acts : List Act) (p q : PassView) : Type 0 where
+  pub caller : q.caller ≡ p.caller
+  pub spare : q.spare ≡ p.spare
+  pub last : q.last ≡ last_in p.last acts
+  pub shelves : KeepsShelves (bios_in acts) p.bios q.bios
+  pub pushed : HavePlenty q.bios.shelves → Grew (bios_in acts) p.bios.queue q.bios.queue

@@ -8,7 +8,7 @@ use Rattle.range_core.specs.declared.entry.Entry.{Entry}
 use Rattle.range_core.specs.declared.entry.Event.{Event}
 use Rattle.mount_parts.specs.MountView.{HasBlock, MountView, file_at, stripe_at}
 use Rattle.mini_fs.specs.Acts.{Act, Acted, closed_in, opened_in, own_entries}
-use Rattle.mini_fs.specs.Acts.Act.{Turn, SizeTurn, Busy, Open, Close, Take, Refused, Leave, Note, Number}
+use Rattle.mini_fs.specs.Acts.Act.{Turn, SizeTurn, Busy, Open, Close, Take, Refused, Leave, Run, Note, Number}
 use Rattle.mini_fs.specs.PassView.{PassView}
 
 -- a stripe of this file
@@ -25,6 +25,7 @@ IsActAt m file (Close stripe) = IsStripeOf m file stripe
 IsActAt m file (Take at c before after) = at ≡ file
 IsActAt m file (Refused at c before after) = at ≡ file
 IsActAt m file (Leave at c before after) = at ≡ file
+IsActAt m file (Run bios) = Unit {0}
 IsActAt m file (Note begun) = Unit {0}
 IsActAt m file (Number call) = Unit {0}
 

@@ -1,9 +1,10 @@
 //! What a pass did at a mount, one act after another. The laws are functions that do nothing.
-ghost use Rattle.std.specs.Prelude.{◌≡◌, ℕ, Some, List, [], ◌∷◌, ◌++◌, slice_get};
+ghost use Rattle.std.specs.Prelude.{◌≡◌, ℕ, Some, Option, List, [], ◌∷◌, ◌++◌, slice_get};
 ghost use Rattle.turn_cell.specs.Views.{SeatView};
 ghost use Rattle.range_core.specs.declared.entry.Entry.{Entry};
-ghost use Rattle.mini_fs.specs.Acts.{Act, Acted, Acts, SeatActed};
-ghost use Rattle.mini_fs.specs.PassView.{PassView};
+ghost use Rattle.inode_lock.specs.View.{LockView};
+ghost use Rattle.mini_fs.specs.Acts.{Act, Acted, Acts, PassActed, SeatActed, SizeActed, lock_after};
+ghost use Rattle.mini_fs.specs.PassView.{PassView, SizeSeat};
 
 /// Acts put one after another are acts.
 pub fn acts_add_up()
@@ -14,4 +15,21 @@ pub fn acts_add_up()
 /// Through acts a pass sees at each stripe, behind all that it had seen, what stands in them, and made what of it is its own.
 pub fn acts_are_seen()
     ensures { (stripe : ℕ) (acts : List Act) (p q : PassView) (before : SeatView Entry) → Acted acts p q → slice_get p.stripes stripe ≡ Some before → (after : SeatView Entry) × (slice_get q.stripes stripe ≡ Some after) × SeatActed stripe acts before after }
+{}
+
+/// The same at each size.
+pub fn acts_are_seen_at_sizes()
+    ensures { (cell : ℕ) (acts : List Act) (p q : PassView) (before : SizeSeat) → Acted acts p q → slice_get p.sizes cell ≡ Some before → (after : SizeSeat) × (slice_get q.sizes cell ≡ Some after) × SizeActed cell acts before after }
+{}
+
+/// Through acts the seat of a pass at a file's lock is where the last of them that is at this lock left it.
+pub fn acts_are_at_locks()
+    ensures { (file : ℕ) (acts : List Act) (p q : PassView) (place : Option LockView) → Acted acts p q → slice_get p.locks file ≡ Some place → slice_get q.locks file ≡ Some (lock_after file place acts) }
+{}
+
+/// Through acts a pass keeps its caller number and its spare numbers, its last call is the last that was given a number, and
+/// its shelves are the same, with at most as much less as bios were run. Where they all have plenty left, it pushed as many
+/// bios, or found the queue full.
+pub fn acts_keep_the_pass()
+    ensures { (acts : List Act) (p q : PassView) → Acted acts p q → PassActed acts p q }
 {}

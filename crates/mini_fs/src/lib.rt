@@ -10,6 +10,7 @@
 //! - `page_events`, `direct_events`, `dax_events`, `due_events`: the events of a range, each as one turn of a pass
 //! - `looks`, `space_events`: turns that look at extents, promise space to blocks, take promises back and give sectors
 //! - `mapping`: how a mount maps ranges of its files
+//! - `acts`: what a pass did, one act after another
 //! - `split`, `join`: how a pass is split for another caller, and how two passes are joined
 //! - `ticket`: the seat that carries a loan, and the turns that lend and take back
 //! - `lends`, `returns`: the events that lend on a ticket and take back from one
@@ -47,7 +48,9 @@ mod ticket;
 mod turn;
 mod unmount;
 
-pub use acts::{acts_add_up, acts_are_seen};
+pub use acts::{
+    acts_add_up, acts_are_at_locks, acts_are_seen, acts_are_seen_at_sizes, acts_keep_the_pass,
+};
 pub use begun::Begun;
 pub use crossing::{
     bios_cross, mounts_are_shared, passes_cross, queue_passes_cross, queues_are_shared,
