@@ -53,21 +53,21 @@ kept-none b = record { same = rose-none b.shelves; sent = 0; most = omega arith;
 
 kept-then : (m n : ℕ) (b c d : BioSeatsView) → KeepsShelves m b c → KeepsShelves n c d → KeepsShelves (m + n) b d
 kept-then m n b c d one two = record {
-    same = rose-then b.shelves c.shelves d.shelves one.same two.same;
-    sent = one.sent + two.sent;
-    most = omega (arith, one.most, two.most);
-    fell = omega (arith, one.fell, two.fell);
-  }
+  same = rose-then b.shelves c.shelves d.shelves one.same two.same;
+  sent = one.sent + two.sent;
+  most = omega (arith, one.most, two.most);
+  fell = omega (arith, one.fell, two.fell);
+}
 
 -- a step that leaves all of this
 left-alone : (a : Act) (p q : PassView) → bios_in (a ∷ []) ≡ 0 → last_in p.last (a ∷ []) ≡ q.last → q.caller ≡ p.caller → q.spare ≡ p.spare → q.bios ≡ p.bios → PassActed (a ∷ []) p q
 left-alone a p q none last caller spare bios = record {
-    caller = caller;
-    spare = spare;
-    last = sym last;
-    shelves = subst (λ n. KeepsShelves n p.bios q.bios) (sym none) (subst (λ b. KeepsShelves 0 p.bios b) (sym bios) (kept-none p.bios));
-    pushed = λ plenty. subst (λ n. Grew n p.bios.queue q.bios.queue) (sym none) (subst (λ (b : BioSeatsView). Grew 0 p.bios.queue b.queue) (sym bios) (grew-none p.bios.queue));
-  }
+  caller = caller;
+  spare = spare;
+  last = sym last;
+  shelves = subst (λ n. KeepsShelves n p.bios q.bios) (sym none) (subst (λ b. KeepsShelves 0 p.bios b) (sym bios) (kept-none p.bios));
+  pushed = λ plenty. subst (λ n. Grew n p.bios.queue q.bios.queue) (sym none) (subst (λ (b : BioSeatsView). Grew 0 p.bios.queue b.queue) (sym bios) (grew-none p.bios.queue));
+}
 
 -- one act
 act-pass : (a : Act) (p q : PassView) → Acts a p q → PassActed (a ∷ []) p q
@@ -80,12 +80,12 @@ act-pass (Take file c before after) p q did = left-alone (Take file c before aft
 act-pass (Refused file c before after) p q did = left-alone (Refused file c before after) p q refl (sym (ap (λ (v : PassView). v.last) did.pass_is)) (ap (λ (v : PassView). v.caller) did.pass_is) (ap (λ (v : PassView). v.spare) did.pass_is) (ap (λ (v : PassView). v.bios) did.pass_is)
 act-pass (Leave file c before after) p q did = left-alone (Leave file c before after) p q refl (sym (ap (λ (v : PassView). v.last) did.pass_is)) (ap (λ (v : PassView). v.caller) did.pass_is) (ap (λ (v : PassView). v.spare) did.pass_is) (ap (λ (v : PassView). v.bios) did.pass_is)
 act-pass (Run bios) p q did = record {
-    caller = ap (λ (v : PassView). v.caller) did.pass_is;
-    spare = ap (λ (v : PassView). v.spare) did.pass_is;
-    last = ap (λ (v : PassView). v.last) did.pass_is;
-    shelves = subst (λ n. KeepsShelves n p.bios q.bios) (let e : bios ≡ bios + 0 = omega arith in e) did.shelves;
-    pushed = λ plenty. subst (λ n. Grew n p.bios.queue q.bios.queue) (let e : bios ≡ bios + 0 = omega arith in e) (did.pushed plenty);
-  }
+  caller = ap (λ (v : PassView). v.caller) did.pass_is;
+  spare = ap (λ (v : PassView). v.spare) did.pass_is;
+  last = ap (λ (v : PassView). v.last) did.pass_is;
+  shelves = subst (λ n. KeepsShelves n p.bios q.bios) (let e : bios ≡ bios + 0 = omega arith in e) did.shelves;
+  pushed = λ plenty. subst (λ n. Grew n p.bios.queue q.bios.queue) (let e : bios ≡ bios + 0 = omega arith in e) (did.pushed plenty);
+}
 act-pass (Note begun) p q did = left-alone (Note begun) p q refl (sym (ap (λ (v : PassView). v.last) did)) (ap (λ (v : PassView). v.caller) did) (ap (λ (v : PassView). v.spare) did) (ap (λ (v : PassView). v.bios) did)
 act-pass (Number call) p q did = left-alone (Number call) p q refl (sym (ap (λ (v : PassView). v.last) did)) (ap (λ (v : PassView). v.caller) did) (ap (λ (v : PassView). v.spare) did) (ap (λ (v : PassView). v.bios) did)
 
@@ -119,12 +119,12 @@ last-first last (Number call) acts = refl
 -- all acts
 pub acted-pass : (acts : List Act) (p q : PassView) → Acted acts p q → PassActed acts p q
 acted-pass [] p q did = record {
-    caller = ap (λ (v : PassView). v.caller) did;
-    spare = ap (λ (v : PassView). v.spare) did;
-    last = ap (λ (v : PassView). v.last) did;
-    shelves = subst (λ (v : PassView). KeepsShelves 0 p.bios v.bios) (sym did) (kept-none p.bios);
-    pushed = λ plenty. subst (λ (v : PassView). Grew 0 p.bios.queue v.bios.queue) (sym did) (grew-none p.bios.queue);
-  }
+  caller = ap (λ (v : PassView). v.caller) did;
+  spare = ap (λ (v : PassView). v.spare) did;
+  last = ap (λ (v : PassView). v.last) did;
+  shelves = subst (λ (v : PassView). KeepsShelves 0 p.bios v.bios) (sym did) (kept-none p.bios);
+  pushed = λ plenty. subst (λ (v : PassView). Grew 0 p.bios.queue v.bios.queue) (sym did) (grew-none p.bios.queue);
+}
 acted-pass (a ∷ acts) p q (r, one, rest) =
     let first = act-pass a p r one in
     let more = acted-pass acts r q rest in
@@ -139,12 +139,12 @@ acted-pass (a ∷ acts) p q (r, one, rest) =
 -- one act, at a size where the pass has a seat
 size-alone : (k : ℕ) (a : Act) (s : SizeSeat) → size_seen_in k (a ∷ []) ≡ [] → size_made_in k (a ∷ []) ≡ [] → SizeActed k (a ∷ []) s s
 size-alone k a s none nobody = record {
-    cell = refl;
-    share = refl;
-    seen = sym (append-nil s.seat.seen) ∙ ap (λ l. s.seat.seen ++ l) (sym none);
-    made = sym (append-nil s.seat.made) ∙ ap (λ l. s.seat.made ++ l) (sym nobody);
-    refused = ([], append-nil s.seat.refused);
-  }
+  cell = refl;
+  share = refl;
+  seen = sym (append-nil s.seat.seen) ∙ ap (λ l. s.seat.seen ++ l) (sym none);
+  made = sym (append-nil s.seat.made) ∙ ap (λ l. s.seat.made ++ l) (sym nobody);
+  refused = ([], append-nil s.seat.refused);
+}
 
 same-number : (k : ℕ) → (k == k) ≡ true
 same-number k = eq-eqb k k refl
@@ -155,28 +155,30 @@ other-number a b n = false_from_ne_true (a == b) (λ e. n (eqb-true a b e))
 size-turned : (k : ℕ) (others : List SizeEntry) (own : SizeEntry) (before after : SizeSeat) → after.seat.cell ≡ before.seat.cell → after.seat.share ≡ before.seat.share → Begins before.seat.refused after.seat.refused
     → after.seat.seen ≡ (before.seat.seen ++ others) ++ own ∷ [] → after.seat.made ≡ before.seat.made ++ own ∷ [] → SizeActed k (SizeTurn k others own ∷ []) before after
 size-turned k others own before after cell share refused seen made = record {
-    cell = cell;
-    share = share;
-    seen = seen ∙ append_assoc before.seat.seen others (own ∷ []) ∙ ap (λ l. before.seat.seen ++ l) (sym (append-nil (others ++ own ∷ [])) ∙ ap (λ b. (if b then others ++ own ∷ [] else []) ++ []) (sym (same-number k)));
-    made = made ∙ ap (λ b. before.seat.made ++ ((if b then own ∷ [] else []) ++ [])) (sym (same-number k));
-    refused = refused;
-  }
+  cell = cell;
+  share = share;
+  seen = seen ∙ append_assoc before.seat.seen others (own ∷ []) ∙ ap (λ l. before.seat.seen ++ l) (sym (append-nil (others ++ own ∷ [])) ∙ ap (λ b. (if b then others ++ own ∷ [] else []) ++ []) (sym (same-number k)));
+  made = made ∙ ap (λ b. before.seat.made ++ ((if b then own ∷ [] else []) ++ [])) (sym (same-number k));
+  refused = refused;
+}
 
 act-size : (k : ℕ) (a : Act) (p q : PassView) (s : SizeSeat) → Acts a p q → slice_get p.sizes k ≡ Some s → (t : SizeSeat) × (slice_get q.sizes k ≡ Some t) × SizeActed k (a ∷ []) s t
 act-size k (Turn stripe others own) p q s did here = (s, ap (λ (v : PassView). slice_get v.sizes k) did.pass_is ∙ here, size-alone k (Turn stripe others own) s refl refl)
 act-size k (SizeTurn cell others own) p q s did here = elim (cases_eq cell k) [
-    | inl e ↦
-        let same : did.before ≡ s = (let h : slice_get p.sizes cell ≡ Some s = ap (λ n. slice_get p.sizes n) e ∙ here in let g = did.here in cc) in
-        (did.after,
-         ap (λ (v : PassView). slice_get v.sizes k) did.pass_is ∙ ap (λ n. slice_get (set p.sizes n did.after) k) e ∙ set-same p.sizes k s did.after here,
-         subst (λ n. SizeActed k (SizeTurn n others own ∷ []) s did.after) (sym e)
-         (subst (λ b. SizeActed k (SizeTurn k others own ∷ []) b did.after) same (size-turned k others own did.before did.after did.same_cell did.share did.refused did.seen did.made)))
-    | inr n ↦
-        let no : (cell == k) ≡ false = other-number cell k n in
-        (s,
-         ap (λ (v : PassView). slice_get v.sizes k) did.pass_is ∙ set-other p.sizes cell k did.after (λ e. n (sym e)) ∙ here,
-         size-alone k (SizeTurn cell others own) s (ap (λ b. (if b then others ++ own ∷ [] else []) ++ []) no) (ap (λ b. (if b then own ∷ [] else []) ++ []) no))
-  ]
+  | inl e ↦
+      let same : did.before ≡ s = (let h : slice_get p.sizes cell ≡ Some s = ap (λ n. slice_get p.sizes n) e ∙ here in let g = did.here in cc) in (
+        did.after,
+        ap (λ (v : PassView). slice_get v.sizes k) did.pass_is ∙ ap (λ n. slice_get (set p.sizes n did.after) k) e ∙ set-same p.sizes k s did.after here,
+        subst (λ n. SizeActed k (SizeTurn n others own ∷ []) s did.after) (sym e)
+            (subst (λ b. SizeActed k (SizeTurn k others own ∷ []) b did.after) same (size-turned k others own did.before did.after did.same_cell did.share did.refused did.seen did.made)),
+      )
+  | inr n ↦
+      let no : (cell == k) ≡ false = other-number cell k n in (
+        s,
+        ap (λ (v : PassView). slice_get v.sizes k) did.pass_is ∙ set-other p.sizes cell k did.after (λ e. n (sym e)) ∙ here,
+        size-alone k (SizeTurn cell others own) s (ap (λ b. (if b then others ++ own ∷ [] else []) ++ []) no) (ap (λ b. (if b then own ∷ [] else []) ++ []) no),
+      )
+]
 act-size k (Busy stripe word) p q s did here = (s, ap (λ (v : PassView). slice_get v.sizes k) did.pass_is ∙ here, size-alone k (Busy stripe word) s refl refl)
 act-size k (Open stripe) p q s did here = (s, ap (λ (v : PassView). slice_get v.sizes k) did.pass_is ∙ here, size-alone k (Open stripe) s refl refl)
 act-size k (Close stripe) p q s did here = (s, ap (λ (v : PassView). slice_get v.sizes k) did.pass_is ∙ here, size-alone k (Close stripe) s refl refl)
@@ -219,21 +221,24 @@ acted-size k [] p q s did here = (s, ap (λ (v : PassView). slice_get v.sizes k)
 acted-size k (a ∷ acts) p q s (r, one, rest) here =
     let first = act-size k a p r s one here in
     let t = first.0 in
-    let more = acted-size k acts r q t rest first.1 in
-    (more.0, more.1, record {
-      cell = more.2.cell ∙ first.2.cell;
-      share = more.2.share ∙ first.2.share;
-      seen = more.2.seen ∙ ap (λ l. l ++ size_seen_in k acts) first.2.seen ∙ append_assoc s.seat.seen (size_seen_in k (a ∷ [])) (size_seen_in k acts) ∙ ap (λ l. s.seat.seen ++ l) (sym (size_seen-first k a acts));
-      made = more.2.made ∙ ap (λ l. l ++ size_made_in k acts) first.2.made ∙ append_assoc s.seat.made (size_made_in k (a ∷ [])) (size_made_in k acts) ∙ ap (λ l. s.seat.made ++ l) (sym (size_made-first k a acts));
-      refused = begins-then _ _ _ first.2.refused more.2.refused;
-    })
+    let more = acted-size k acts r q t rest first.1 in (
+      more.0,
+      more.1,
+      record {
+        cell = more.2.cell ∙ first.2.cell;
+        share = more.2.share ∙ first.2.share;
+        seen = more.2.seen ∙ ap (λ l. l ++ size_seen_in k acts) first.2.seen ∙ append_assoc s.seat.seen (size_seen_in k (a ∷ [])) (size_seen_in k acts) ∙ ap (λ l. s.seat.seen ++ l) (sym (size_seen-first k a acts));
+        made = more.2.made ∙ ap (λ l. l ++ size_made_in k acts) first.2.made ∙ append_assoc s.seat.made (size_made_in k (a ∷ [])) (size_made_in k acts) ∙ ap (λ l. s.seat.made ++ l) (sym (size_made-first k a acts));
+        refused = begins-then _ _ _ first.2.refused more.2.refused;
+      },
+    )
 
 -- one act, at the lock of a file
 at-lock : (f : ℕ) (p q : PassView) (file : FileId) (place was now : Option LockView) → slice_get p.locks f ≡ Some place → slice_get p.locks file.0 ≡ Some was → slice_get q.locks f ≡ slice_get (set p.locks file.0 now) f → slice_get q.locks f ≡ Some (if file.0 == f then now else place)
 at-lock f p q file place was now here there is = elim (cases_eq file.0 f) [
-    | inl e ↦ is ∙ ap (λ n. slice_get (set p.locks n now) f) e ∙ set-same p.locks f place now here ∙ ap (λ b. Some (if b then now else place)) (sym (eq-eqb file.0 f e))
-    | inr n ↦ is ∙ set-other p.locks file.0 f now (λ e. n (sym e)) ∙ here ∙ ap (λ b. Some (if b then now else place)) (sym (other-number file.0 f n))
-  ]
+  | inl e ↦ is ∙ ap (λ n. slice_get (set p.locks n now) f) e ∙ set-same p.locks f place now here ∙ ap (λ b. Some (if b then now else place)) (sym (eq-eqb file.0 f e))
+  | inr n ↦ is ∙ set-other p.locks file.0 f now (λ e. n (sym e)) ∙ here ∙ ap (λ b. Some (if b then now else place)) (sym (other-number file.0 f n))
+]
 
 act-lock : (f : ℕ) (a : Act) (p q : PassView) (place : Option LockView) → Acts a p q → slice_get p.locks f ≡ Some place → slice_get q.locks f ≡ Some (lock_after f place (a ∷ []))
 act-lock f (Turn stripe others own) p q place did here = ap (λ (v : PassView). slice_get v.locks f) did.pass_is ∙ here
