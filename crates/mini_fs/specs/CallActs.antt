@@ -47,6 +47,14 @@ size_acts (_ ∷ acts) = size_acts acts
 abbrev pub loans_in : List Act → ℕ
 loans_in acts = total lendings (own_entries acts)
 
+-- the pass with the number of another call
+abbrev pub with_call : PassView → ℕ → PassView
+with_call p call = record p { last = call }
+
+-- the tag of what a call of the pass does
+abbrev pub tag_of : PassView → ℕ → Tag
+tag_of p call = record { caller = p.caller; call = call }
+
 -- two tags are the same
 abbrev pub is_tag : Tag → Tag → Bool
 is_tag a b = a.caller == b.caller && a.call == b.call

@@ -5,7 +5,7 @@
 //! pass, which has a seat at each cell and lock.
 //!
 //! - `mount`, `start`: the mount, and how it begins
-//! - `pass`, `begun`: a caller's seats and numbers, and the mapping that it began
+//! - `pass`, `begun`, `call`: a caller's seats and numbers, the mapping that it began, and the number of its call
 //! - `turn`, `size`: one turn of a pass, at a stripe and at a size
 //! - `page_events`, `direct_events`, `dax_events`, `due_events`: the events of a range, each as one turn of a pass
 //! - `looks`, `space_events`: turns that look at extents, promise space to blocks, take promises back and give sectors
@@ -22,6 +22,7 @@
 
 mod acts;
 mod begun;
+mod call;
 mod crossing;
 mod dax_events;
 mod direct_events;
