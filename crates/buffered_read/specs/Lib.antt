@@ -1,0 +1,4 @@
+pub mod Parts
+pub mod Reads
+pub mod Replies
+pub mod Tries
