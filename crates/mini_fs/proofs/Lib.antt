@@ -28,3 +28,4 @@ pub mod Unmounting
 pub mod KeptNumbers
 pub mod CallLemmas
 pub mod PassActs
+pub mod CallEnds

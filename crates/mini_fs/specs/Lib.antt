@@ -19,3 +19,4 @@ pub mod SpaceTurns
 pub mod MapTurns
 pub mod Mappings
 pub mod CallActs
+pub mod Calls

@@ -3,7 +3,9 @@ ghost use Rattle.std.specs.Prelude.{◌≡◌, ℕ, Some, Option, List, [], ◌�
 ghost use Rattle.turn_cell.specs.Views.{SeatView};
 ghost use Rattle.range_core.specs.declared.entry.Entry.{Entry};
 ghost use Rattle.inode_lock.specs.View.{LockView};
-ghost use Rattle.mini_fs.specs.Acts.{Act, Acted, Acts, PassActed, SeatActed, SizeActed, lock_after};
+ghost use Rattle.mini_fs.specs.Acts.{Act, Acted, Acts, PassActed, SeatActed, SizeActed, closed_in, lock_after, opened_in};
+ghost use Rattle.mini_fs.specs.CallActs.{lock_acts};
+ghost use Rattle.mini_fs.specs.Calls.{KeepsShares};
 ghost use Rattle.mini_fs.specs.PassView.{PassView, SizeSeat};
 
 /// Acts put one after another are acts.
@@ -32,4 +34,11 @@ pub fn acts_are_at_locks()
 /// bios, or found the queue full.
 pub fn acts_keep_the_pass()
     ensures { (acts : List Act) (p q : PassView) → Acted acts p q → PassActed acts p q }
+{}
+
+/// Acts that close each ticket that they opened keep the pass's shares at the stripes, and without an act at a lock its seats
+/// at the locks stay.
+pub fn acts_keep_shares()
+    ensures shares { (acts : List Act) (p q : PassView) → Acted acts p q → ((stripe : ℕ) → opened_in stripe acts ≡ closed_in stripe acts) → KeepsShares p q }
+    ensures locks { (acts : List Act) (p q : PassView) → Acted acts p q → lock_acts acts ≡ [] → q.locks ≡ p.locks }
 {}

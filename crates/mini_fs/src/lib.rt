@@ -50,7 +50,8 @@ mod turn;
 mod unmount;
 
 pub use acts::{
-    acts_add_up, acts_are_at_locks, acts_are_seen, acts_are_seen_at_sizes, acts_keep_the_pass,
+    acts_add_up, acts_are_at_locks, acts_are_seen, acts_are_seen_at_sizes, acts_keep_shares,
+    acts_keep_the_pass,
 };
 pub use begun::Begun;
 pub use crossing::{
