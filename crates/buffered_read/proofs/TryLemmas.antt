@@ -67,7 +67,7 @@ given-fetch o cell seen others kept e by from to here same event outcome =
     ∙ ap (λ x. bytes_given cell.opening ((kept ++ []) ++ others) (Fetch by from to) x) outcome
     ∙ ap (λ l. replayed_run cell.opening (l ++ others) from to) (append-nil kept ∙ same)
 
-module _ (m : MountView) (file : FileId) (by : Tag) (at to : ℕ) (p q : PassView) (iov later : IovView) (claims : ClaimsView) (laid : IsLaidOut m) (block_size : IsTrue (is_block_size m.geometry.block_size)) (folio_blocks : IsTrue (is_folio_blocks m.geometry.folio_blocks)) (some : at < to) (within : to ≤ file_end m file) where
+module _ (m : MountView) (file : FileId) (by : Tag) (at to : ℕ) (p q : PassView) (iov later : IovView) (claims : ClaimsView) (laid : IsLaidOut m) (block_size : IsTrue (is_block_size m.geometry.block_size)) (folio_blocks : IsTrue (is_folio_blocks m.geometry.folio_blocks)) (some : at < to) (within : to ≤ file_end m file) (mine : by.caller ≡ p.caller) where
   has : HasBlock m file (block_at m at)
   has = part-block m file at to (some-bytes m.geometry.block_size block_size) some within
 
@@ -88,7 +88,7 @@ module _ (m : MountView) (file : FileId) (by : Tag) (at to : ℕ) (p q : PassVie
         did = turned-act t;
         words = words-turn p q (stripe_at m file (block_at m at)) t.after t.pass_is free;
         read = record {
-          reads = record { some = some; block = has; stripe_is = refl; event = event; outcome_is = outcome };
+          reads = record { some = some; block = has; stripe_is = refl; caller = ap (λ (x : Entry). x.caller) did.entry_is ∙ sym mine; event = event; outcome_is = outcome };
           bytes = did.bytes ∙ ap (λ l. written_on l iov) (sym given);
           long = ap length given ∙ part-long m file laid block_size folio_blocks at to some within t.cell t.turned.value (t.before.seen ++ t.turned.others) t.turned.stakes t.stand.cell_is t.turned.stood.holds;
         };
@@ -102,7 +102,7 @@ module _ (m : MountView) (file : FileId) (by : Tag) (at to : ℕ) (p q : PassVie
         words = words-turn p q (stripe_at m file (block_at m at)) t.after t.pass_is free;
         read = tt;
         hindered = record {
-          hinders = record { refused = e; part = record { some = some; block = has; stripe_is = refl; event = ap (λ (x : Entry). x.event) did.entry_is; outcome_is = ap (λ (x : Entry). x.outcome) did.entry_is }; fault_is = refl };
+          hinders = record { refused = e; part = record { some = some; block = has; stripe_is = refl; caller = ap (λ (x : Entry). x.caller) did.entry_is ∙ sym mine; event = ap (λ (x : Entry). x.event) did.entry_is; outcome_is = ap (λ (x : Entry). x.outcome) did.entry_is }; fault_is = refl };
           nothing = did.nothing;
         };
       }

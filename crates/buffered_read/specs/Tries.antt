@@ -68,11 +68,12 @@ told (Ok (Err refused)) = Some (hindrance refused)
 told (Err busy) = Some (Again (Gate busy.word))
 
 module _ (m : MountView) (file : FileId) (by : Tag) (to : ℕ) where
-  -- An entry at a stripe is the fetch of the part that begins at a place, and its turn came out so
+  -- An entry at a stripe is the caller's fetch of the part that begins at a place, and its turn came out so
   pub record IsPartAt (at stripe : ℕ) (own : Entry) (outcome : Outcome) : Type 0 where
     pub some : at < to
     pub block : HasBlock m file (block_at m at)
     pub stripe_is : stripe ≡ stripe_at m file (block_at m at)
+    pub caller : own.caller ≡ by.caller
     pub event : own.event ≡ part_fetch m.geometry by to at
     pub outcome_is : own.outcome ≡ outcome
 

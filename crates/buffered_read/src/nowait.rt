@@ -71,6 +71,7 @@ fn try_part(
     iov: &mut IovIter,
 ) -> Option<Fault>
     requires of { IsPassOf mount.now pass.old }
+    requires caller { by.caller ≡ pass.old.caller }
     requires mode { (file_at mount.now file).mode ≡ Cached }
     requires some { at < to }
     requires within { to ≤ file_end mount.now file }
@@ -95,6 +96,7 @@ fn try_parts(
     iov: &mut IovIter,
 ) -> (u64, Option<Fault>)
     requires of { IsPassOf mount.now pass.old }
+    requires caller { by.caller ≡ pass.old.caller }
     requires mode { (file_at mount.now file).mode ≡ Cached }
     requires order { from ≤ to }
     requires within { from < to → to ≤ file_end mount.now file }
