@@ -36,6 +36,8 @@ use Rattle.mini_fs.specs.Acts.Act.{Turn, SizeTurn, Busy, Open, Close, Take, Refu
 use Rattle.mini_fs.specs.CallActs.{CallActs, IsActAt, is_tag, loans_in, lock_acts, size_acts, tag_of, with_call}
 use Rattle.mini_fs.specs.Mappings.{file_end}
 use Rattle.mini_fs.specs.PassView.{IsPassOf, PassView, share_at, share_in}
+use Rattle.mini_fs.specs.TicketView.{TicketView}
+use Rattle.mini_fs.specs.Tickets.{IsTicketOf}
 use Rattle.mini_fs.specs.Turns.{block_at}
 use Rattle.mini_fs.proofs.ActLemmas.{acted-seat}
 use Rattle.mini_fs.proofs.CallLemmas.{call-none, call-then, loans-append, lock_acts-append, own_entries-append, size_acts-append}
@@ -68,6 +70,10 @@ call-numbered m file may p call = record {
   made = All-nil (λ (e : Entry). IsTrue (may e.event));
   closed = λ stripe. refl;
 }
+
+-- a call's number leaves the tickets
+pub tickets-numbered : (p start : PassView) (call : ℕ) (t : TicketView) → start ≡ with_call p call → IsTicketOf p t → IsTicketOf start t
+tickets-numbered p start call t is ticket = subst (λ s. IsTicketOf s t) (sym is) (record { caller = ticket.caller; seat = ticket.seat; here = ticket.here; loan = ticket.loan })
 
 -- an entry of a fetch lends nothing
 lent-none : (e : Entry) (o : Outcome) → e.outcome ≡ o → has_lent o ≡ false → lendings e ≡ 0

@@ -8,6 +8,7 @@ ghost use Rattle.mount_parts.specs.MountView.{HasFile, file_at};
 ghost use Rattle.mini_fs.specs.Holds.{IsHoldOf};
 ghost use Rattle.mini_fs.specs.Mappings.{file_end};
 ghost use Rattle.mini_fs.specs.PassView.{IsPassOf};
+ghost use Rattle.mini_fs.specs.Tickets.{KeepsTickets};
 ghost use Rattle.buffered_read.specs.Tries.{HasRead, KeepsPass, OnlyTurned, TriedPart, TriedParts, TriesRead, hindrance, told};
 
 use crate::part::{part_end, read_to};
@@ -78,6 +79,7 @@ fn try_part(
     requires room { HasNext iov.old (to - at) }
     ensures of { IsPassOf mount.now pass.new }
     ensures rest { OnlyTurned pass.old pass.new }
+    ensures tickets { KeepsTickets pass.old pass.new }
     ensures tried { TriedPart mount.now file by to at pass.old pass.new iov.old iov.new result }
 {
     mount.is_laid_out();
@@ -103,6 +105,7 @@ fn try_parts(
     requires room { HasNext iov.old (to - from) }
     ensures of { IsPassOf mount.now pass.new }
     ensures rest { OnlyTurned pass.old pass.new }
+    ensures tickets { KeepsTickets pass.old pass.new }
     ensures reached { from ≤ result.0 }
     ensures tried { TriedParts mount.now file by to from result.0 pass.old pass.new iov.old iov.new result.1 }
 {
@@ -152,6 +155,7 @@ pub fn pread_nowait(
     requires home { AllHome iov.old }
     ensures of { IsPassOf mount.now pass.new }
     ensures hold { IsHoldOf mount.now pass.new hold.now }
+    ensures tickets { KeepsTickets pass.old pass.new }
     ensures pass { KeepsPass call pass.old pass.new }
     ensures read { TriesRead mount.now file call off pass.old pass.new iov.old iov.new result }
 {

@@ -1,6 +1,6 @@
 use Rattle.std.proofs.Common.{◌≡◌, length, refl, ap, ◌∙◌, arith}
 use Rattle.buffered_read.specs.Parts.{read_to}
-use Rattle.buffered_read.proofs.NoWaitLemmas.{keeps-pass, tries-from}
+use Rattle.buffered_read.proofs.NoWaitLemmas.{keeps-pass, tickets-numbered, tries-from}
 use Rattle.buffered_read.proofs.nowait.pread_nowait.Goals as goal
 
 pub returns-clause-read : goal.returns-clause-read
@@ -19,3 +19,6 @@ pub returns-clause-pass : goal.returns-clause-pass
 returns-clause-pass c =
     keeps-pass c.args.mount.now c.args.file c.args.call c.args.off c.try_parts-at.result.0 c.args.pass.now c.try_parts-at.new.pass c.args.iov.now c.try_parts-at.new.iov c.try_parts-at.result.1 (record { reply = c.read_reply.result; bios = 0 })
     c.start_call-by.new.self c.start_call-by.ensures.pass c.try_parts-at.ensures.rest c.requires.of c.try_parts-at.ensures.of (returns-clause-read c)
+
+pub returns-clause-tickets : goal.returns-clause-tickets
+returns-clause-tickets c = λ t is. c.try_parts-at.ensures.tickets t (tickets-numbered c.args.pass.now c.start_call-by.new.self c.args.call t c.start_call-by.ensures.pass is)

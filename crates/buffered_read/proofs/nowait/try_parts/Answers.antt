@@ -7,6 +7,7 @@ pub loop-at-init : goal.loop-at-init
 loop-at-init c = record {
   of = c.requires.of;
   rest = refl;
+  tickets = λ t is. is;
   low = omega arith;
   high = c.requires.order;
   room = c.requires.room;
@@ -26,6 +27,7 @@ loop-at-preserved c =
     record {
       of = c.try_part.ensures.of;
       rest = turned-then c.args.pass.now c.loop-at.pass c.try_part.new.pass c.loop-at.invariant.rest c.try_part.ensures.rest;
+      tickets = λ t is. c.try_part.ensures.tickets t (c.loop-at.invariant.tickets t is);
       low = more.low;
       high = more.high;
       room = more.room;
