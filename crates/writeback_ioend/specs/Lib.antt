@@ -1,1 +1,2 @@
 pub mod ErrorCounts
+pub mod DropsCache
