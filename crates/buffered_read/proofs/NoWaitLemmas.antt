@@ -32,7 +32,7 @@ use Rattle.range_core.specs.declared.fault.EventFault.{EventFault}
 use Rattle.range_core.specs.declared.fault.EventFault.TheVariants as refusal
 use Rattle.mount_parts.specs.MountView.{MountView, file_at}
 use Rattle.mini_fs.specs.Acts.{Act, Acted, Acts, own_entries}
-use Rattle.mini_fs.specs.Acts.Act.{Turn, SizeTurn, Busy, Open, Close, Take, Refused, Leave, Note, Number}
+use Rattle.mini_fs.specs.Acts.Act.{Turn, SizeTurn, Busy, Open, Close, Take, Refused, Leave, Run, Note, Number}
 use Rattle.mini_fs.specs.CallActs.{CallActs, IsActAt, is_tag, loans_in, lock_acts, size_acts, tag_of, with_call}
 use Rattle.mini_fs.specs.Mappings.{file_end}
 use Rattle.mini_fs.specs.PassView.{IsPassOf, PassView, share_at, share_in}
@@ -120,6 +120,7 @@ module _ (m : MountView) (file : FileId) (by : Tag) (to : ℕ) where
   reads-part at (Take f c before after) p q is did = absurd is
   reads-part at (Refused f c before after) p q is did = absurd is
   reads-part at (Leave f c before after) p q is did = absurd is
+  reads-part at (Run bios) p q is did = absurd is
   reads-part at (Note begun) p q is did = absurd is
   reads-part at (Number call) p q is did = absurd is
 
@@ -151,6 +152,7 @@ module _ (m : MountView) (file : FileId) (by : Tag) (to : ℕ) where
   reads-hindered at fault (Take f c before after) p q is did = absurd is
   reads-hindered at fault (Refused f c before after) p q is did = absurd is
   reads-hindered at fault (Leave f c before after) p q is did = absurd is
+  reads-hindered at fault (Run bios) p q is did = absurd is
   reads-hindered at fault (Note begun) p q is did = absurd is
   reads-hindered at fault (Number call) p q is did = absurd is
 
@@ -178,6 +180,7 @@ module _ (m : MountView) (file : FileId) (by : Tag) (to : ℕ) where
   hindered-none at fault (Take f c b after) is size p before = absurd is
   hindered-none at fault (Refused f c b after) is size p before = absurd is
   hindered-none at fault (Leave f c b after) is size p before = absurd is
+  hindered-none at fault (Run bios) is size p before = absurd is
   hindered-none at fault (Note begun) is size p before = absurd is
   hindered-none at fault (Number call) is size p before = absurd is
 
@@ -208,6 +211,7 @@ module _ (m : MountView) (file : FileId) (by : Tag) (to : ℕ) where
     parts-on from at (Take f c b after ∷ acts) (first, rest) = absurd first
     parts-on from at (Refused f c b after ∷ acts) (first, rest) = absurd first
     parts-on from at (Leave f c b after ∷ acts) (first, rest) = absurd first
+    parts-on from at (Run bios ∷ acts) (first, rest) = absurd first
     parts-on from at (Note begun ∷ acts) (first, rest) = absurd first
     parts-on from at (Number call ∷ acts) (first, rest) = absurd first
 
@@ -232,6 +236,7 @@ module _ (m : MountView) (file : FileId) (by : Tag) (to : ℕ) where
     join-stamps from at (Take f c b after ∷ acts) part (first, rest) = absurd first
     join-stamps from at (Refused f c b after ∷ acts) part (first, rest) = absurd first
     join-stamps from at (Leave f c b after ∷ acts) part (first, rest) = absurd first
+    join-stamps from at (Run bios ∷ acts) part (first, rest) = absurd first
     join-stamps from at (Note begun ∷ acts) part (first, rest) = absurd first
     join-stamps from at (Number call ∷ acts) part (first, rest) = absurd first
 
@@ -248,6 +253,7 @@ module _ (m : MountView) (file : FileId) (by : Tag) (to : ℕ) where
     parts-stamps from at (Take f c b after ∷ acts) (first, rest) = absurd first
     parts-stamps from at (Refused f c b after ∷ acts) (first, rest) = absurd first
     parts-stamps from at (Leave f c b after ∷ acts) (first, rest) = absurd first
+    parts-stamps from at (Run bios ∷ acts) (first, rest) = absurd first
     parts-stamps from at (Note begun ∷ acts) (first, rest) = absurd first
     parts-stamps from at (Number call ∷ acts) (first, rest) = absurd first
 
@@ -261,6 +267,7 @@ act-numbered m p call before (Close stripe) = refl
 act-numbered m p call before (Take f c b after) = refl
 act-numbered m p call before (Refused f c b after) = refl
 act-numbered m p call before (Leave f c b after) = refl
+act-numbered m p call before (Run bios) = refl
 act-numbered m p call before (Note begun) = refl
 act-numbered m p call before (Number other) = refl
 
@@ -320,6 +327,7 @@ may-hinder m file by to at off lengths fault (Close stripe) is = absurd is
 may-hinder m file by to at off lengths fault (Take f c b after) is = absurd is
 may-hinder m file by to at off lengths fault (Refused f c b after) is = absurd is
 may-hinder m file by to at off lengths fault (Leave f c b after) is = absurd is
+may-hinder m file by to at off lengths fault (Run bios) is = absurd is
 may-hinder m file by to at off lengths fault (Note begun) is = absurd is
 may-hinder m file by to at off lengths fault (Number call) is = absurd is
 

@@ -15,7 +15,7 @@ use Rattle.range_core.specs.declared.entry.Entry.{Entry}
 use Rattle.mount_parts.specs.MountView.{MountView}
 use Rattle.mount_parts.proofs.Places.{same-length, there, within}
 use Rattle.mini_fs.specs.Acts.{Act, Acted, Acts, seen_in}
-use Rattle.mini_fs.specs.Acts.Act.{Turn, SizeTurn, Busy, Open, Close, Take, Refused, Leave, Note, Number}
+use Rattle.mini_fs.specs.Acts.Act.{Turn, SizeTurn, Busy, Open, Close, Take, Refused, Leave, Run, Note, Number}
 use Rattle.mini_fs.specs.PassView.{IsPassOf, PassView}
 use Rattle.mini_fs.proofs.ActLemmas.{acted-more, acted-seat}
 use Rattle.buffered_read.specs.Parts.{part_end}
@@ -69,6 +69,7 @@ given-on m file by to at p q r acts (Close stripe) of mine acted did reads = abs
 given-on m file by to at p q r acts (Take f c before after) of mine acted did reads = absurd reads
 given-on m file by to at p q r acts (Refused f c before after) of mine acted did reads = absurd reads
 given-on m file by to at p q r acts (Leave f c before after) of mine acted did reads = absurd reads
+given-on m file by to at p q r acts (Run bios) of mine acted did reads = absurd reads
 given-on m file by to at p q r acts (Note begun) of mine acted did reads = absurd reads
 given-on m file by to at p q r acts (Number call) of mine acted did reads = absurd reads
 
@@ -92,6 +93,7 @@ words-first k (Close stripe) acts = refl
 words-first k (Take f c before after) acts = refl
 words-first k (Refused f c before after) acts = refl
 words-first k (Leave f c before after) acts = refl
+words-first k (Run bios) acts = refl
 words-first k (Note begun) acts = refl
 words-first k (Number call) acts = refl
 
