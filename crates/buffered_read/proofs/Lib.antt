@@ -1,6 +1,7 @@
 pub mod NoWaitLemmas
-pub mod PartLemmas
-pub mod ReadyLemmas
-pub mod ReplyLemmas
+pub mod PreadLemmas
+pub mod RangeLemmas
+pub mod ReadLemmas
 pub mod SoFarLemmas
 pub mod TryLemmas
+pub mod WarmLemmas

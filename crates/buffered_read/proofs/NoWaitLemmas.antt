@@ -41,39 +41,18 @@ use Rattle.mini_fs.specs.Tickets.{IsTicketOf}
 use Rattle.mini_fs.specs.Turns.{block_at}
 use Rattle.mini_fs.proofs.ActLemmas.{acted-seat}
 use Rattle.mini_fs.proofs.CallLemmas.{call-none, call-then, loans-append, lock_acts-append, own_entries-append, size_acts-append}
-use Rattle.buffered_read.specs.Parts.{part_end, part_fetch, read_to, stamps_over}
-use Rattle.buffered_read.specs.Reads.{bytes_given, bytes_of_act, bytes_read, given_in}
-use Rattle.buffered_read.specs.Replies.{read_reply}
+use Rattle.call_parts.specs.Parts.{part_end, part_fetch, read_to, stamps_over}
+use Rattle.call_parts.specs.Reads.{bytes_given, bytes_of_act, bytes_read, given_in}
+use Rattle.call_parts.specs.Replies.{read_reply}
 use Rattle.buffered_read.specs.Tries.{EndsSo, Hinders, IsPartAt, KeepsPass, OnlyTurned, ReadParts, ReadsPart, TriedParts, TriesRead, hindrance, may_fetch}
-use Rattle.buffered_read.proofs.PartLemmas.{IsPart, over-met, over-none, over-parts, part-is}
-use Rattle.buffered_read.proofs.ReadyLemmas.{some-blocks, some-bytes}
-use Rattle.buffered_read.proofs.ReplyLemmas.{lawful-read}
+use Rattle.call_parts.proofs.NumberLemmas.{answered-so, call-numbered, own-tag, stamps-append, tickets-numbered}
+use Rattle.call_parts.proofs.PartLemmas.{IsPart, over-met, over-none, over-parts, part-is}
+use Rattle.call_parts.proofs.ReadyLemmas.{some-blocks, some-bytes}
+use Rattle.call_parts.proofs.ReplyLemmas.{lawful-read}
 use Rattle.buffered_read.proofs.SoFarLemmas.{found-then, read-append, seat-there}
-
--- two lists of stamps put one after the other
-stamps-append : (size : ℕ) (es more : List Entry) → stamps_in size (es ++ more) ≡ stamps_in size es ++ stamps_in size more
-stamps-append size [] more = refl
-stamps-append size (e ∷ es) more = ap (λ l. stamps_of size e ++ l) (stamps-append size es more) ∙ sym (append_assoc (stamps_of size e) (stamps_in size es) (stamps_in size more))
-
--- a call may make its own fetches
-own-tag : (by : Tag) → is_tag by by ≡ true
-own-tag by = ap (λ b. b && (by.call == by.call)) (eq-eqb by.caller by.caller refl) ∙ eq-eqb by.call by.call refl
 
 own-fetch : (g : Layout) (by : Tag) (to at : ℕ) (e : Event) → e ≡ part_fetch g by to at → IsTrue (may_fetch by e)
 own-fetch g by to at e is = subst (λ x. IsTrue (may_fetch by x)) (sym is) (own-tag by)
-
--- a call of the number itself
-pub call-numbered : (m : MountView) (file : FileId) (may : Event → Bool) (p : PassView) (call : ℕ) → CallActs m file may p (with_call p call) (Number call ∷ [])
-call-numbered m file may p call = record {
-  acted = (with_call p call, refl, refl);
-  at_file = All-cons (IsActAt m file) (Number call) [] tt (All-nil (IsActAt m file));
-  made = All-nil (λ (e : Entry). IsTrue (may e.event));
-  closed = λ stripe. refl;
-}
-
--- a call's number leaves the tickets
-pub tickets-numbered : (p start : PassView) (call : ℕ) (t : TicketView) → start ≡ with_call p call → IsTicketOf p t → IsTicketOf start t
-tickets-numbered p start call t is ticket = subst (λ s. IsTicketOf s t) (sym is) (record { caller = ticket.caller; seat = ticket.seat; here = ticket.here; loan = ticket.loan })
 
 -- an entry of a fetch lends nothing
 lent-none : (e : Entry) (o : Outcome) → e.outcome ≡ o → has_lent o ≡ false → lendings e ≡ 0
@@ -276,34 +255,6 @@ read-numbered m p call before [] = refl
 read-numbered m p call before (a ∷ acts) =
     ap (λ l. l ++ bytes_read m p (Number call ∷ (before ++ a ∷ [])) acts) (act-numbered m p call before a)
     ∙ ap (λ l. bytes_of_act m (with_call p call) before a ++ l) (read-numbered m p call (before ++ a ∷ []) acts)
-
--- the answered bytes of a read are those that it did
-module _ (size : ℕ) (some : 0 < size) (stamp : Stamp) (end off asked : ℕ) where
-  answered-count : (count : ℕ) → count ≤ span_length (range_in end off asked) → stamps_over size (span off (min (min (off + asked) end) (off + count))) stamp ≡ stamps_over size (span off (off + count)) stamp
-  answered-count count le = elim (cases_eq count 0) [
-    | inl e ↦
-        let none : nat_lt off (min (min (off + asked) end) (off + count)) ≡ false = grind (arith, nat_tests) in
-        let same : nat_lt off (off + count) ≡ false = grind (arith, nat_tests) in
-        over-empty off (min (min (off + asked) end) (off + count)) none ∙ sym (over-empty off (off + count) same)
-    | inr n ↦
-        let is : min (min (off + asked) end) (off + count) ≡ off + count = omega (arith, n, le) in
-        ap (λ x. stamps_over size (span off x) stamp) is
-  ]
-    where
-      over-empty : (from to : ℕ) → nat_lt from to ≡ false → stamps_over size (span from to) stamp ≡ []
-      over-empty from to none = ap (λ b. stamps_from (from / size) (if b then (to - 1) / size + 1 - from / size else 0) stamp) none
-
-  pub answered-so : (count : ℕ) (fault : Option Fault) → count ≤ span_length (range_in end off asked)
-      → stamps_over size (answered_in size (range_in end off asked) false (read_reply asked (span_length (range_in end off asked)) count fault)) stamp ≡ stamps_over size (span off (off + count)) stamp
-  answered-so count None le = answered-count count le
-  answered-so count (Some fault) le = at (count == 0) refl
-    where
-      at : (b : Bool) → (count == 0) ≡ b → stamps_over size (answered_in size (range_in end off asked) false (if b then Err fault 0 else Ok count (Short fault))) stamp ≡ stamps_over size (span off (off + count)) stamp
-      at true e =
-          let none : count ≡ 0 = eqb-true count 0 e in
-          let z : off ≡ off + count = omega (arith, none) in
-          over-none size some stamp 0 ∙ sym (over-none size some stamp off) ∙ ap (λ x. stamps_over size (span off x) stamp) z
-      at false e = answered-count count le
 
 -- a read that does not wait may be hindered so
 may-refuse : (off : ℕ) (lengths : List ℕ) (e : EventFault) → may_meet false (Pread off lengths) (hindrance e) ≡ true

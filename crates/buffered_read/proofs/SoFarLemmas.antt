@@ -18,22 +18,22 @@ use Rattle.mini_fs.specs.Acts.{Act, Acted, Acts, seen_in}
 use Rattle.mini_fs.specs.Acts.Act.{Turn, SizeTurn, Busy, Open, Close, Take, Refused, Leave, Run, Note, Number}
 use Rattle.mini_fs.specs.PassView.{IsPassOf, PassView}
 use Rattle.mini_fs.proofs.ActLemmas.{acted-more, acted-seat}
-use Rattle.buffered_read.specs.Parts.{part_end}
-use Rattle.buffered_read.specs.Reads.{bytes_of_act, bytes_read, given_in, seen_at, seen_by}
+use Rattle.call_parts.specs.Parts.{part_end}
+use Rattle.call_parts.specs.Reads.{bytes_of_act, bytes_read, given_in, seen_at, seen_by}
 use Rattle.buffered_read.specs.Tries.{FoundWords, HasRead, OnlyTurned, ReadParts, ReadsPart, TriedPart, TriedParts, words_at, words_in}
-use Rattle.buffered_read.proofs.PartLemmas.{part-is}
-use Rattle.buffered_read.proofs.ReadyLemmas.{some-blocks, some-bytes}
+use Rattle.call_parts.proofs.PartLemmas.{part-is}
+use Rattle.call_parts.proofs.ReadyLemmas.{some-blocks, some-bytes}
 
 -- nothing is written
 put-none : (at : ℕ) (bytes : List ℕ) → put_at at [] bytes ≡ bytes
 put-none at bytes =
     ap (λ l. l ++ drop (at + 0) bytes) (append-nil (take at bytes)) ∙ ap (λ n. take at bytes ++ drop n bytes) (let z : at + 0 ≡ at = omega arith in z) ∙ take-append-drop at bytes
 
-written-none : (v : IovView) → written_on [] v ≡ v
+pub written-none : (v : IovView) → written_on [] v ≡ v
 written-none v = ap (λ b. record v { bytes = b; place = v.place + 0 }) (put-none v.place v.bytes) ∙ ap (λ n. record v { place = n }) (let z : v.place + 0 ≡ v.place = omega arith in z)
 
 -- bytes are written after others
-written-more : (xs ys : List ℕ) (v : IovView) → v.place + length xs ≤ length v.bytes → written_on ys (written_on xs v) ≡ written_on (xs ++ ys) v
+pub written-more : (xs ys : List ℕ) (v : IovView) → v.place + length xs ≤ length v.bytes → written_on ys (written_on xs v) ≡ written_on (xs ++ ys) v
 written-more xs ys v fits =
     let place : v.place + length xs + length ys ≡ v.place + length (xs ++ ys) = (let h = length-append xs ys in omega (arith, h)) in
     ap (λ b. record v { bytes = b; place = v.place + length xs + length ys }) (put_at_more v.place xs ys v.bytes fits)

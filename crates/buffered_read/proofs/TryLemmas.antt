@@ -19,15 +19,15 @@ use Rattle.range_core.specs.declared.entry.Outcome.TheVariants.{Finished}
 use Rattle.range_core.specs.declared.fault.EventFault.{EventFault}
 use Rattle.mount_parts.specs.MountView.{MountView, HasBlock, IsLaidOut, stripe_at}
 use Rattle.mini_fs.specs.Mappings.{file_end}
-use Rattle.buffered_read.proofs.ReadyLemmas.{part-block, part-long, some-bytes}
+use Rattle.call_parts.proofs.ReadyLemmas.{part-block, part-long, some-bytes}
 use Rattle.mount_parts.proofs.Places.{set-same, set-other}
 use Rattle.mini_fs.specs.Acts.Act.{Turn, Busy}
 use Rattle.mini_fs.specs.PageTurns.{FetchedTo}
 use Rattle.mini_fs.specs.PassView.{PassView, refused_at, refused_in}
 use Rattle.mini_fs.specs.Turns.{BusyAt, TurnsAt, block_at, with_seat}
 use Rattle.mini_fs.proofs.ActLemmas.{busy-act, turned-act}
-use Rattle.buffered_read.specs.Parts.{part_end}
-use Rattle.buffered_read.specs.Reads.{bytes_given, given_in, seen_at, seen_by}
+use Rattle.call_parts.specs.Parts.{part_end}
+use Rattle.call_parts.specs.Reads.{bytes_given, given_in, seen_at, seen_by}
 use Rattle.buffered_read.specs.Tries.{TriedPart, told, words_at, words_in}
 
 -- a turn that found no gate held
@@ -59,7 +59,7 @@ words-busy p q stripe word b k = elim (cases_eq k stripe) [
 ]
 
 -- a fetch gave the bytes that its history leaves
-given-fetch : (o : Option (CellView RangeView)) (cell : CellView RangeView) (seen others : List Entry) (kept : List Entry) (e : Entry) (by : Tag) (from to : ℕ) → o ≡ Some cell → kept ≡ seen → e.event ≡ Fetch by from to → e.outcome ≡ Finished
+pub given-fetch : (o : Option (CellView RangeView)) (cell : CellView RangeView) (seen others : List Entry) (kept : List Entry) (e : Entry) (by : Tag) (from to : ℕ) → o ≡ Some cell → kept ≡ seen → e.event ≡ Fetch by from to → e.outcome ≡ Finished
     → given_in o ((kept ++ []) ++ others) e ≡ replayed_run cell.opening (seen ++ others) from to
 given-fetch o cell seen others kept e by from to here same event outcome =
     ap (λ x. given_in x ((kept ++ []) ++ others) e) here

@@ -1,4 +1,4 @@
-pub mod Parts
-pub mod Reads
-pub mod Replies
+pub mod Preads
+pub mod ReadCalls
 pub mod Tries
+pub mod Warms

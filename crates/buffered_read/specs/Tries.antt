@@ -28,9 +28,9 @@ use Rattle.mini_fs.specs.CallActs.{CallActs, is_tag, loans_in, lock_acts, size_a
 use Rattle.mini_fs.specs.Mappings.{file_end}
 use Rattle.mini_fs.specs.PassView.{PassView, refused_at, share_at}
 use Rattle.mini_fs.specs.Turns.{block_at}
-use Rattle.buffered_read.specs.Parts.{part_end, part_fetch, read_to, stamps_over}
-use Rattle.buffered_read.specs.Reads.{bytes_of_act, bytes_read}
-use Rattle.buffered_read.specs.Replies.{read_reply}
+use Rattle.call_parts.specs.Parts.{part_end, part_fetch, read_to, stamps_over}
+use Rattle.call_parts.specs.Reads.{bytes_of_act, bytes_read}
+use Rattle.call_parts.specs.Replies.{read_reply}
 
 -- the events of a read that does not wait
 abbrev pub may_fetch : Tag → Event → Bool

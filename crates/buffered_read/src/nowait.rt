@@ -11,8 +11,7 @@ ghost use Rattle.mini_fs.specs.PassView.{IsPassOf};
 ghost use Rattle.mini_fs.specs.Tickets.{KeepsTickets};
 ghost use Rattle.buffered_read.specs.Tries.{HasRead, KeepsPass, OnlyTurned, TriedPart, TriedParts, TriesRead, hindrance, told};
 
-use crate::part::{part_end, read_to};
-use crate::reply::read_reply;
+use call_parts::{file_end, part_end, read_reply, read_to, sizes};
 use iob_base::{Answer, Fault, FileId, Geometry, Tag, Why};
 use iov_iter::IovIter;
 use mini_fs::{CachedHold, Mount, Pass};
@@ -39,26 +38,6 @@ fn told(tried: Result<Result<(), EventFault>, Busy>) -> Option<Fault>
         Ok(Err(refused)) => Some(hindrance(refused)),
         Err(busy) => Some(Fault::Again(Why::Gate(busy.word))),
     }
-}
-
-// The sizes of the mount's blocks and folios.
-fn sizes(mount: &Mount) -> Geometry
-    ensures is { result ≡ mount.now.geometry }
-    ensures blocks { IsTrue (is_block_size mount.now.geometry.block_size) }
-    ensures folios { IsTrue (is_folio_blocks mount.now.geometry.folio_blocks) }
-{
-    mount.geometry()
-}
-
-// Where the bytes of a file end.
-fn file_end(mount: &Mount, file: FileId) -> u64
-    requires { HasFile mount.now file }
-    ensures is { result ≡ file_end mount.now file }
-    ensures blocks { IsTrue (is_block_size mount.now.geometry.block_size) }
-    ensures folios { IsTrue (is_folio_blocks mount.now.geometry.folio_blocks) }
-{
-    mount.is_laid_out();
-    mount.blocks(file) * u64::from(sizes(mount).block_size())
 }
 
 // One try at the part that begins at `at`, and what hindered it.

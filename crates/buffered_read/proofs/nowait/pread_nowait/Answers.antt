@@ -1,6 +1,7 @@
 use Rattle.std.proofs.Common.{◌≡◌, length, refl, ap, ◌∙◌, arith}
-use Rattle.buffered_read.specs.Parts.{read_to}
-use Rattle.buffered_read.proofs.NoWaitLemmas.{keeps-pass, tickets-numbered, tries-from}
+use Rattle.call_parts.specs.Parts.{read_to}
+use Rattle.call_parts.proofs.NumberLemmas.{tickets-numbered}
+use Rattle.buffered_read.proofs.NoWaitLemmas.{keeps-pass, tries-from}
 use Rattle.buffered_read.proofs.nowait.pread_nowait.Goals as goal
 
 pub returns-clause-read : goal.returns-clause-read

@@ -1,8 +1,8 @@
 use Rattle.std.proofs.Common.{sym, ap, ◌∙◌, subst}
 use Rattle.range_core.specs.Fetches.{CanFetch}
 use Rattle.mini_fs.specs.PassView.{claims_of}
-use Rattle.buffered_read.specs.Parts.{part_end}
-use Rattle.buffered_read.proofs.ReadyLemmas.{part-ready}
+use Rattle.call_parts.specs.Parts.{part_end}
+use Rattle.call_parts.proofs.ReadyLemmas.{part-ready}
 use Rattle.buffered_read.proofs.TryLemmas.{tried-part}
 use Rattle.buffered_read.proofs.nowait.try_part.Goals as goal
 

@@ -1,5 +1,5 @@
 use Rattle.std.proofs.Common.{refl, ap, ◌∙◌, arith}
-use Rattle.buffered_read.specs.Parts.{part_end}
+use Rattle.call_parts.specs.Parts.{part_end}
 use Rattle.buffered_read.proofs.SoFarLemmas.{hindered-then, read-none, so-far-then, turned-then}
 use Rattle.buffered_read.proofs.nowait.try_parts.Goals as goal
 

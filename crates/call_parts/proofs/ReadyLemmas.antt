@@ -22,8 +22,8 @@ use Rattle.mini_fs.specs.Mappings.{file_end}
 use Rattle.mini_fs.specs.Turns.{block_at}
 use Rattle.mini_fs.proofs.Layouts.{stripe-sizes}
 use Rattle.mini_fs.proofs.Ready.{run-lies, stripe-here}
-use Rattle.buffered_read.specs.Parts.{part_end}
-use Rattle.buffered_read.proofs.PartLemmas.{IsPart, div-mono, part-is}
+use Rattle.call_parts.specs.Parts.{part_end}
+use Rattle.call_parts.proofs.PartLemmas.{IsPart, div-mono, part-is}
 
 pub some-bytes : (size : ℕ) → IsTrue (is_block_size size) → 0 < size
 some-bytes size is = grind arith
@@ -32,7 +32,7 @@ pub some-blocks : (n : ℕ) → IsTrue (is_folio_blocks n) → 0 < n
 some-blocks n is = grind arith
 
 -- blocks of one folio are blocks of one stripe
-folio-in-stripe : (n b l : ℕ) → IsTrue (is_folio_blocks n) → b ≤ l → b / n ≡ l / n → b % 64 + (l + 1 - b) ≤ 64
+pub folio-in-stripe : (n b l : ℕ) → IsTrue (is_folio_blocks n) → b ≤ l → b / n ≡ l / n → b % 64 + (l + 1 - b) ≤ 64
 folio-in-stripe n b l is le same = grind (arith, nat_tests)
 
 -- a byte before the end lies in a block of the file

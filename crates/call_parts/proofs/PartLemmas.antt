@@ -9,7 +9,7 @@ use Rattle.io_model.specs.Parts.{span}
 use Rattle.range_core.specs.Spots as spots
 use Rattle.range_core.specs.Stamps.{stamps_from}
 use Rattle.range_core.proofs.StampRunLemmas.{stamps_from-parts}
-use Rattle.buffered_read.specs.Parts.{stamps_over}
+use Rattle.call_parts.specs.Parts.{stamps_over}
 use Rattle.std.proofs.Math.Nat.{div-div-eq-div-mul, lt-div-mul-add, mul-mod_left}
 
 -- A part of a range that ends at `to`, where a block has so many bytes and a folio so many blocks

@@ -10,13 +10,13 @@ use Rattle.iob_base.specs.declared.answer.Stop.TheVariants.{Fault as Short}
 use Rattle.io_model.specs.Lawful.{is_data_reply, is_end_stop, is_lawful_reply, is_nothing_done, is_ranged_reply, may_meet}
 use Rattle.io_model.specs.Parts.{Span, range_in, span_length}
 use Rattle.io_model.specs.declared.script.Verb.TheVariants.{Pread}
-use Rattle.buffered_read.specs.Replies.{end_stop, read_reply, short_reply}
+use Rattle.call_parts.specs.Replies.{end_stop, read_reply, short_reply}
 
-both-true : (a b c : Bool) → a ≡ true → b ≡ true → (a && b) || c ≡ true
+pub both-true : (a b c : Bool) → a ≡ true → b ≡ true → (a && b) || c ≡ true
 both-true a b c one two = ap (λ x. (x && b) || c) one ∙ ap (λ x. x || c) two
 
 -- a read stops whole where the file has all that was asked, and otherwise at the end
-end-so : (asked met : ℕ) → met ≤ asked → is_end_stop met asked (end_stop asked met) ≡ true
+pub end-so : (asked met : ℕ) → met ≤ asked → is_end_stop met asked (end_stop asked met) ≡ true
 end-so asked met some = at (met == asked) refl
   where
     at : (b : Bool) → (met == asked) ≡ b → is_end_stop met asked (if b then Whole else End) ≡ true

@@ -1,0 +1,435 @@
+-- What one try to read a part of a file's bytes tells, and what the part comes to.
+use Rattle.std.proofs.Common.{◌≡◌, ℕ, zero, ◌+◌, ◌-◌, ◌*◌, ◌<◌, ◌≤◌, ◌==◌, min, inl, inr, Bool, true, false, Some, Ok, Err, List, [], ◌∷◌, ◌++◌, length, take, if◌then◌else◌, refl, sym, ap, ◌∙◌, subst, arith, append-nil, length-take, le-div_iff_mul-le}
+use Rattle.std.specs.Prelude.{◌⊎◌, ◌/◌, ◌%◌, ◌^◌, All, IfSome, IsTrue, None, Option, Result, max, slice_get, unwrap_or}
+use Rattle.std.proofs.lemmas.Bool.{cases_eq, eq-eqb, eqb-true, false≢true}
+use Rattle.std.proofs.lemmas.List.Elements.{All-cons, All-nil, All-weaker}
+use Rattle.std.proofs.lemmas.Option.{none-some}
+use Rattle.std.proofs.Math.Nat.{mul-mod_left}
+use Rattle.iob_base.specs.Geometry.{is_block_size, is_folio_blocks}
+use Rattle.iob_base.specs.declared.answer.Fault.{Fault}
+use Rattle.iob_base.specs.declared.answer.Fault.TheVariants as fault
+use Rattle.iob_base.specs.declared.stamp.FileId.{FileId}
+use Rattle.iob_base.specs.declared.stamp.Tag.{Tag}
+use Rattle.io_model.specs.Parts.{span}
+use Rattle.iov_iter.specs.IovView.{IovView, written_on}
+use Rattle.fault_device.specs.LaneView.{LaneView}
+use Rattle.fault_device.specs.declared.lane.Done.{Done}
+use Rattle.turn_cell.specs.Stakes.{total}
+use Rattle.turn_cell.specs.Views.{CellView, SeatView}
+use Rattle.range_core.specs.ByteRuns.{HasNext}
+use Rattle.range_core.specs.EntryCounts.{lendings}
+use Rattle.range_core.specs.EntryStamps.{stamps_by, stamps_in, stamps_of}
+use Rattle.range_core.specs.Fetches.{replayed_run}
+use Rattle.range_core.specs.Outcomes.{finished}
+use Rattle.range_core.specs.RangeView.{RangeView, cells_from}
+use Rattle.range_core.specs.Refusals.{away_with_page, cold, fetch_refusal, first_that_stops, is_cold, met, pageless_at, where_true, ◌orElse◌}
+use Rattle.range_core.specs.Spots.{blocks_met}
+use Rattle.range_core.specs.Stamps.{done_by}
+use Rattle.range_core.specs.declared.cell.Cell.{Cell}
+use Rattle.range_core.specs.declared.entry.Entry.{Entry}
+use Rattle.range_core.specs.declared.entry.Event.{Event}
+use Rattle.range_core.specs.declared.entry.Event.TheVariants as event
+use Rattle.range_core.specs.declared.entry.Outcome.TheVariants as outcome
+use Rattle.range_core.specs.declared.fault.EventFault.{EventFault}
+use Rattle.range_core.specs.declared.fault.EventFault.TheVariants as refusal
+use Rattle.range_core.specs.declared.lending.Away.{Away as AwayOn}
+use Rattle.range_core.specs.declared.lending.Lender.{Lender}
+use Rattle.range_core.specs.declared.lending.Lender.TheVariants as lender
+use Rattle.mount_parts.specs.MountView.{HasBlock, HasFile, IsLaidOut, MountView, file_at, stripe_at}
+use Rattle.mini_fs.specs.Acts.{Act, own_entries}
+use Rattle.mini_fs.specs.Acts.Act.{Turn}
+use Rattle.mini_fs.specs.CallActs.{CallActs, IsActAt, loans_in}
+use Rattle.mini_fs.specs.Calls.{HasShares}
+use Rattle.mini_fs.specs.Mappings.{file_end}
+use Rattle.mini_fs.specs.PageTurns.{FetchedTo, entry_by}
+use Rattle.mini_fs.specs.PassView.{IsPassOf, PassView, claims_of, share_at, share_in}
+use Rattle.mini_fs.specs.Tickets.{KeepsTickets}
+use Rattle.mini_fs.specs.Turns.{TurnsAt, block_at}
+use Rattle.mini_fs.proofs.ActLemmas.{turned-act}
+use Rattle.mini_fs.proofs.CallEnds.{acted-shares}
+use Rattle.mini_fs.proofs.Layouts.{has_file, stripe-sizes}
+use Rattle.call_parts.specs.Causes.{HasFailed, IsCaused}
+use Rattle.call_parts.specs.Fills.{CameBack, Fills, IsRefusedLoan, fill_refused, fills}
+use Rattle.call_parts.specs.Parts.{part_end, stamps_over}
+use Rattle.buffered_read.specs.Preads.{EndsAt, HasReadFrom, HasReadUpTo, may_read, progress, stops_read}
+use Rattle.call_parts.specs.Reads.{bytes_read, given_in, seen_at, seen_by}
+use Rattle.call_parts.specs.Steps.{IsQuiet, ServedBy, Steps, dones_in, is_quiet}
+use Rattle.buffered_read.specs.Warms.{StopsWithin, TriesPart, after_try, came_by, ends_or_goes_on, more_bios, told_fill}
+use Rattle.call_parts.specs.declared.cold.Fill.{Fill}
+use Rattle.call_parts.specs.declared.cold.Fill.TheVariants as fill
+use Rattle.call_parts.specs.declared.progress.Progress.{Progress}
+use Rattle.buffered_read.specs.declared.warm.Round.{Round}
+use Rattle.buffered_read.specs.declared.warm.Round.TheVariants as round
+use Rattle.buffered_read.specs.declared.warm.Tried.{Tried}
+use Rattle.buffered_read.specs.declared.warm.Tried.TheVariants as tried
+use Rattle.call_parts.proofs.NumberLemmas.{own-tag}
+use Rattle.call_parts.proofs.PartLemmas.{IsPart, div-mono, over-met, part-is}
+use Rattle.buffered_read.proofs.ReadLemmas.{read-kept, read-none, read-quiet, read-then}
+use Rattle.call_parts.proofs.ReadyLemmas.{folio-in-stripe, part-block, part-long, some-blocks, some-bytes}
+use Rattle.buffered_read.proofs.SoFarLemmas.{written-none}
+use Rattle.call_parts.proofs.StepLemmas.{quiet-bytes, quiet-stamps, served-none, steps-may}
+use Rattle.buffered_read.proofs.TryLemmas.{given-fetch}
+
+-- loans and returns of reads into the cache are quiet, and a read may make them
+fills-quiet : (e : Event) → IsTrue (fills e) → IsTrue (is_quiet e)
+fills-quiet (event.LendRead block most) is = refl
+fills-quiet (event.FillBack ticket block blocks done) is = refl
+fills-quiet e is = absurd (false≢true is)
+
+fills-read : (by : Tag) (e : Event) → IsTrue (fills e) → IsTrue (may_read by e)
+fills-read by (event.LendRead block most) is = refl
+fills-read by (event.FillBack ticket block blocks done) is = refl
+fills-read by e is = absurd (false≢true is)
+
+-- where the bytes of a part begin that lie in one of its blocks and behind it
+module _ (size from to block start : ℕ) (some : 0 < size) (less : from < to) (last : block ≤ (to - 1) / size) (is : start ≡ max from (block * size)) where
+  pub block-begins : block * size ≤ to - 1
+  block-begins = grind (arith, le-div_iff_mul-le)
+
+  start-within : (from ≤ start) × (start < to) × ((start ≡ from) ⊎ (start % size ≡ 0))
+  start-within =
+      let most = block-begins in (
+        omega (arith, is),
+        omega (arith, is, most, less),
+        elim (cases_eq start from) [
+          | inl e ↦ inl e
+          | inr n ↦
+              let here : start ≡ block * size = omega (arith, is, n) in
+              inr (ap (λ k. k % size) here ∙ mul-mod_left block size)
+        ],
+      )
+
+-- a try to read cold blocks of a part from one of them on
+module _ (m : MountView) (file : FileId) (by : Tag) (from to block most start : ℕ) (some : 0 < m.geometry.block_size) (less : from < to) (last : block ≤ (to - 1) / m.geometry.block_size) (start_is : start ≡ max from (block * m.geometry.block_size)) (a b : LaneView) (p q : PassView) (iov : IovView) where
+  fill-read : (acts : List Act) (bios : ℕ) (fault : Option Fault) → Steps m file fills a b p q acts → loans_in acts ≡ bios → bios ≡ min bios (2 ^ 64 - 1) → IfSome fault (IsCaused (own_entries acts)) → IfSome fault (λ f. IsTrue (stops_read f))
+      → HasReadFrom m file by from a b p q iov iov (progress from bios fault)
+  fill-read acts bios fault s sent few cause kind =
+      let quiet : All IsQuiet (own_entries acts) = All-weaker (λ (e : Entry). IsTrue (fills e.event)) IsQuiet (λ e is. fills-quiet e.event is) (own_entries acts) s.did.made in
+      read-quiet m file by from a b p q iov acts bios fault (steps-may m file fills (may_read by) a b p q acts (fills-read by) s) (quiet-stamps m.geometry.block_size (own_entries acts) quiet) (quiet-bytes m p [] acts quiet)
+      (few ∙ ap (λ n. min n (2 ^ 64 - 1)) (sym sent)) cause kind
+
+  back-loans : (acts : List Act) (done : Done) → CameBack p.caller block most (own_entries acts) done → loans_in acts ≡ 1
+  back-loans acts done came = ap (total lendings) came.entries_are
+
+  refused-loans : (acts : List Act) (fault : EventFault) → IsRefusedLoan p.caller block most (own_entries acts) fault → loans_in acts ≡ 0
+  refused-loans acts fault refused = ap (total lendings) refused
+
+  none-loans : (acts : List Act) → (own_entries acts ≡ []) ⊎ ((fault : EventFault) × IsRefusedLoan p.caller block most (own_entries acts) fault × (fill_refused fault ≡ fill.NoMemory)) → loans_in acts ≡ 0
+  none-loans acts (inl none) = ap (total lendings) none
+  none-loans acts (inr h) = refused-loans acts h.0 h.1
+
+  pub fill-tried : (f : Fill) → Fills m file block most a b p q f → TriesPart m file by from to a b p q iov iov (told_fill from start f)
+  fill-tried fill.Filled f = record { read = fill-read f.acts 1 None f.steps (back-loans f.acts f.came.0 f.came.1) refl tt tt; stops = tt }
+  fill-tried fill.Again f = record { read = fill-read f.acts 0 None f.steps (refused-loans f.acts f.came.0 f.came.1) refl tt tt; stops = tt }
+  fill-tried (fill.Failed at done) f = record {
+    read = fill-read f.acts 1 (Some (fault.Eio done.lane done.before done.after)) f.steps (back-loans f.acts done f.came.1) refl
+        (subst (λ es. IsCaused es (fault.Eio done.lane done.before done.after)) (sym f.came.1.entries_are) (zero, done, refl, record { failed = f.came.2; lane_is = refl; before_is = refl; after_is = refl }))
+        refl;
+    stops = start-within m.geometry.block_size from to block start some less last start_is;
+  }
+  fill-tried fill.NoMemory f = record { read = fill-read f.acts 0 (Some fault.NoMemory) f.steps (none-loans f.acts f.came) refl tt refl; stops = (omega arith, less, inl refl) }
+
+-- what a try asks of the blocks of a part from one of them on
+module _ (m : MountView) (file : FileId) (laid : IsLaidOut m) (block_size : IsTrue (is_block_size m.geometry.block_size)) (folio_blocks : IsTrue (is_folio_blocks m.geometry.folio_blocks)) (from to block : ℕ) (less : from < to) (within : to ≤ file_end m file) (part : part_end m.geometry to from ≡ to)
+    (first : from / m.geometry.block_size ≤ block) (last : block ≤ (to - 1) / m.geometry.block_size) where
+  last-block : HasBlock m file ((to - 1) / m.geometry.block_size)
+  last-block = part-block m file (to - 1) to (some-bytes m.geometry.block_size block_size) (omega (arith, less)) within
+
+  pub fill-within : block + ((to - 1) / m.geometry.block_size + 1 - block) ≤ (file_at m file).blocks
+  fill-within = (let has = last-block in omega (arith, has, last))
+
+  pub fill-exists : HasFile m file
+  fill-exists = has_file m file ((to - 1) / m.geometry.block_size) last-block
+
+  one-folio : block / m.geometry.folio_blocks ≡ (to - 1) / m.geometry.block_size / m.geometry.folio_blocks
+  one-folio =
+      let n = m.geometry.folio_blocks in
+      let some = some-blocks n folio_blocks in
+      let whole : IsPart m.geometry.block_size n to from to = subst (IsPart m.geometry.block_size n to from) part (part-is m.geometry.block_size n to from (some-bytes m.geometry.block_size block_size) some less) in
+      let same = whole.in_folio in
+      let low = div-mono (from / m.geometry.block_size) block n some first in
+      let high = div-mono block ((to - 1) / m.geometry.block_size) n some last in
+      omega (arith, same, low, high)
+
+  pub fill-stripe : block % 64 + ((to - 1) / m.geometry.block_size + 1 - block) ≤ 64
+  fill-stripe = folio-in-stripe m.geometry.folio_blocks block ((to - 1) / m.geometry.block_size) folio_blocks last one-folio
+
+  pub fill-share : (p : PassView) → HasShares m file 2 p → 1 < share_at p (stripe_at m file block)
+  fill-share p shares = (let has = last-block in let share = shares block (omega (arith, has, last)) in omega (arith, share))
+
+-- a cold block that hinders a fetch is one of those met
+first-cold : (b block : ℕ) (cells : List Cell) → first_that_stops cold b cells ≡ Some (refusal.Cold block) → (b ≤ block) × (block < b + length cells)
+first-cold b block [] e = absurd (none-some (refusal.Cold block) e)
+first-cold b block (c ∷ cells) e = at (is_cold c) (first-cold (b + 1) block cells) e
+  where
+    at : (t : Bool) → (first_that_stops cold (b + 1) cells ≡ Some (refusal.Cold block) → (b + 1 ≤ block) × (block < b + 1 + length cells)) → (where_true t (refusal.Cold b) orElse first_that_stops cold (b + 1) cells) ≡ Some (refusal.Cold block)
+        → (b ≤ block) × (block < b + length (c ∷ cells))
+    at true rest e = (let same : b ≡ block = cc in (omega (arith, same), omega (arith, same)))
+    at false rest e = (let h = rest e in let low = h.0 in let high = h.1 in (omega (arith, low), omega (arith, high)))
+
+abbrev away_on : ℕ → Lender → AwayOn
+away_on ticket lender = record { ticket = ticket; lender = lender }
+
+lent-never : (b block ticket : ℕ) (l : Lender) → pageless_at b (Some (away_on ticket l)) ≡ Some (refusal.Cold block) → ⊥
+lent-never b block ticket lender.Reading e = absurd (cc)
+lent-never b block ticket lender.Writeback e = none-some (refusal.Cold block) e
+lent-never b block ticket (lender.Direct by op) e = absurd (cc)
+lent-never b block ticket (lender.Part by from to) e = absurd (cc)
+
+pageless-never : (b block : ℕ) (o : Option AwayOn) → pageless_at b o ≡ Some (refusal.Cold block) → ⊥
+pageless-never b block None e = none-some (refusal.Cold block) e
+pageless-never b block (Some lent) e = lent-never b block lent.ticket lent.lender e
+
+away-never : (b block : ℕ) (cells : List Cell) → first_that_stops away_with_page b cells ≡ Some (refusal.Cold block) → ⊥
+away-never b block [] e = none-some (refusal.Cold block) e
+away-never b block (c ∷ cells) e = at (away_with_page b c) (pageless-never b block c.away) (away-never (b + 1) block cells) e
+  where
+    at : (o : Option EventFault) → (o ≡ Some (refusal.Cold block) → ⊥) → (first_that_stops away_with_page (b + 1) cells ≡ Some (refusal.Cold block) → ⊥) → (o orElse first_that_stops away_with_page (b + 1) cells) ≡ Some (refusal.Cold block) → ⊥
+    at None one rest e = rest e
+    at (Some f) one rest e = one e
+
+cold-of : (one two : Option EventFault) (block : ℕ) → (one ≡ Some (refusal.Cold block) → ⊥) → refusal.Cold block ≡ unwrap_or (one orElse two) refusal.NoMemory → two ≡ Some (refusal.Cold block)
+cold-of None None block never e = absurd (cc)
+cold-of None (Some f) block never e = ap Some (sym e)
+cold-of (Some f) two block never e = absurd (never (ap Some (sym e)))
+
+few-taken : (n : ℕ) (cells : List Cell) → length (take n cells) ≤ n
+few-taken n cells = (let h = length-take n cells in omega (arith, h))
+
+pub cold-met : (r : RangeView) (size from to block : ℕ) → r.geometry.block_size ≡ size → 0 < size → from < to → refusal.Cold block ≡ unwrap_or (fetch_refusal r from to) refusal.NoMemory → (from / size ≤ block) × (block ≤ (to - 1) / size)
+cold-met r size from to block is some less e =
+    let b = from / r.geometry.block_size in
+    let here = first-cold b block (met r from to) (cold-of (first_that_stops away_with_page b (met r from to)) (first_that_stops cold b (met r from to)) block (away-never b block (met r from to)) e) in
+    let few = few-taken (blocks_met r.geometry.block_size from to) (cells_from r b) in
+    subst (λ n. (from / n ≤ block) × (block ≤ (to - 1) / n)) is
+    (let low = here.0 in let high = here.1 in let le = div-mono from (to - 1) r.geometry.block_size (subst (λ n. 0 < n) (sym is) some) (omega (arith, less)) in (low, omega (arith, low, high, few, le)))
+
+-- after a step that closed what it opened the shares are as many
+pub shares-after : (m : MountView) (file : FileId) (may : Event → Bool) (n : ℕ) (p q : PassView) (acts : List Act) → 0 < n → CallActs m file may p q acts → HasShares m file n p → HasShares m file n q
+shares-after m file may n p q acts some did shares b has = at (slice_get p.stripes k) refl
+  where
+    k : ℕ
+    k = stripe_at m file b
+
+    at : (o : Option (SeatView Entry)) → slice_get p.stripes k ≡ o → n ≤ share_at q k
+    at None e = (let low = shares b has in let none : share_at p k ≡ 0 = ap share_in e in absurd (omega (arith, low, none, some)))
+    at (Some seat) e = (let low = shares b has in let one : share_at p k ≡ seat.share = ap share_in e in let same = acted-shares acts p q did.acted did.closed k seat e in omega (arith, low, one, same))
+
+-- a fetch that was refused, or gave the bytes of its part
+fetch-loans : (caller : ℕ) (by : Tag) (from to : ℕ) (answer : Result (Unit {0}) EventFault) → total lendings (entry_by caller (event.Fetch by from to) (finished answer) ∷ []) ≡ 0
+fetch-loans caller by from to (Ok u) = refl
+fetch-loans caller by from to (Err e) = refl
+
+fetch-dones : (caller : ℕ) (by : Tag) (from to : ℕ) (answer : Result (Unit {0}) EventFault) → dones_in (entry_by caller (event.Fetch by from to) (finished answer) ∷ []) ≡ []
+fetch-dones caller by from to (Ok u) = refl
+fetch-dones caller by from to (Err e) = refl
+
+refused-given : (o : Option (CellView RangeView)) (history : List Entry) (caller : ℕ) (by : Tag) (from to : ℕ) (e : EventFault) → given_in o history (entry_by caller (event.Fetch by from to) (outcome.Refused e)) ≡ []
+refused-given None history caller by from to e = refl
+refused-given (Some cell) history caller by from to e = refl
+
+module _ (m : MountView) (file : FileId) (by : Tag) (from to : ℕ) (laid : IsLaidOut m) (block_size : IsTrue (is_block_size m.geometry.block_size)) (folio_blocks : IsTrue (is_folio_blocks m.geometry.folio_blocks)) (less : from < to) (within : to ≤ file_end m file) (part : part_end m.geometry to from ≡ to)
+    (p q : PassView) (iov later : IovView) where
+  has : HasBlock m file (block_at m from)
+  has = part-block m file from to (some-bytes m.geometry.block_size block_size) less within
+
+  abbrev pub Fetches : Result (Unit {0}) EventFault → Type 0
+  Fetches answer = TurnsAt (λ opening history before after entry. FetchedTo by from to iov later opening history before after p.caller answer entry) m (stripe_at m file (block_at m from)) (claims_of p) (claims_of p) p q
+
+  abbrev act_of : (answer : Result (Unit {0}) EventFault) → Fetches answer → Act
+  act_of answer t = Turn (stripe_at m file (block_at m from)) t.turned.others t.turned.entry
+
+  fetch-steps : (lane : LaneView) → IsPassOf m q → KeepsTickets p q → (answer : Result (Unit {0}) EventFault) (t : Fetches answer) → Steps m file (may_read by) lane lane p q (act_of answer t ∷ [])
+  fetch-steps lane mine tickets answer t =
+      let own = t.turned.entry in
+      let is = t.turned.done.entry_is in
+      record {
+        of = mine;
+        did = record {
+          acted = (q, turned-act t, refl);
+          at_file = All-cons (IsActAt m file) (act_of answer t) [] (block_at m from, has, refl) (All-nil (IsActAt m file));
+          made = All-cons (λ (e : Entry). IsTrue (may_read by e.event)) own [] (subst (λ (e : Entry). IsTrue (may_read by e.event)) (sym is) (own-tag by)) (All-nil (λ (e : Entry). IsTrue (may_read by e.event)));
+          closed = λ k. refl;
+        };
+        locks = refl;
+        sizes = refl;
+        last = ap (λ (v : PassView). v.last) t.pass_is;
+        callers = All-cons (λ (e : Entry). e.caller ≡ p.caller) own [] (ap (λ (e : Entry). e.caller) is) (All-nil (λ (e : Entry). e.caller ≡ p.caller));
+        run = sym (ap (λ (e : Entry). total lendings (e ∷ [])) is ∙ fetch-loans p.caller by from to answer);
+        lane = subst (ServedBy lane lane) (sym (ap (λ (e : Entry). dones_in (e ∷ [])) is ∙ fetch-dones p.caller by from to answer)) (served-none lane);
+        tickets = tickets;
+      }
+
+  fetch-sent : (answer : Result (Unit {0}) EventFault) (t : Fetches answer) → 0 ≡ min (loans_in (act_of answer t ∷ [])) (2 ^ 64 - 1)
+  fetch-sent answer t = ap (λ n. min n (2 ^ 64 - 1)) (sym (ap (λ (e : Entry). total lendings (e ∷ [])) t.turned.done.entry_is ∙ fetch-loans p.caller by from to answer))
+
+  pub fetch-read : (lane : LaneView) → IsPassOf m q → KeepsTickets p q → (u : Unit {0}) → Fetches (Ok u) → HasReadFrom m file by from lane lane p q iov later (progress to 0 None)
+  fetch-read lane mine tickets u t =
+      let size = m.geometry.block_size in
+      let stripe = stripe_at m file (block_at m from) in
+      let did = t.turned.done in
+      let is = did.entry_is in
+      let all = t.before.seen ++ t.turned.others in
+      let given = given-fetch (slice_get m.stripes stripe) t.cell t.before.seen t.turned.others (seen_at p stripe) t.turned.entry by from to t.stand.cell_is (ap seen_by t.stand.seat_is) (ap (λ (e : Entry). e.event) is) (ap (λ (e : Entry). e.outcome) is) in
+      let bytes : bytes_read m p [] (act_of (Ok u) t ∷ []) ≡ replayed_run t.cell.opening all from to = append-nil _ ∙ given in
+      let long : length (replayed_run t.cell.opening all from to) ≡ to - from =
+      subst (λ n. length (replayed_run t.cell.opening all from n) ≡ n - from) part (part-long m file laid block_size folio_blocks from to less within t.cell t.turned.value all t.turned.stakes t.stand.cell_is t.turned.stood.holds) in
+      record {
+        acts = act_of (Ok u) t ∷ [];
+        steps = fetch-steps lane mine tickets (Ok u) t;
+        begins = omega (arith, less);
+        bytes = did.bytes ∙ ap (λ l. written_on l iov) (sym bytes);
+        long = ap length bytes ∙ long;
+        stamps = ap (λ (e : Entry). stamps_in size (e ∷ [])) is ∙ append-nil _ ∙ sym (over-met size (some-bytes size block_size) (done_by by) from to less);
+        cause = tt;
+        kind = tt;
+        bios = fetch-sent (Ok u) t;
+      }
+
+  -- nothing was read, and that is what stops the read, or nothing does
+  pub refused-read : (lane : LaneView) → IsPassOf m q → KeepsTickets p q → (e : EventFault) → Fetches (Err e) → (o : Option Fault) → IfSome o (λ f. f ≡ fault.NoMemory) → HasReadFrom m file by from lane lane p q iov later (progress from 0 o)
+  refused-read lane mine tickets e t o is =
+      let size = m.geometry.block_size in
+      let entry = t.turned.done.entry_is in
+      subst (λ v. HasReadFrom m file by from lane lane p q iov v (progress from 0 o)) (sym t.turned.done.nothing)
+      (read-quiet m file by from lane lane p q iov (act_of (Err e) t ∷ []) 0 o (fetch-steps lane mine tickets (Err e) t)
+      (ap (λ (x : Entry). stamps_in size (x ∷ [])) entry)
+      (ap (λ (x : Entry). bytes_read m p [] (Turn (stripe_at m file (block_at m from)) t.turned.others x ∷ [])) entry ∙ append-nil _ ∙ refused-given (slice_get m.stripes (stripe_at m file (block_at m from))) ((seen_at p (stripe_at m file (block_at m from)) ++ []) ++ t.turned.others) p.caller by from to e)
+      (fetch-sent (Err e) t)
+      (caused-memory (own_entries (act_of (Err e) t ∷ [])) o is)
+      (kind-memory o is))
+    where
+      caused-memory : (entries : List Entry) (o : Option Fault) → IfSome o (λ f. f ≡ fault.NoMemory) → IfSome o (IsCaused entries)
+      caused-memory entries None none = tt
+      caused-memory entries (Some f) same = subst (IsCaused entries) (sym same) tt
+
+      kind-memory : (o : Option Fault) → IfSome o (λ f. f ≡ fault.NoMemory) → IfSome o (λ f. IsTrue (stops_read f))
+      kind-memory None none = tt
+      kind-memory (Some f) same = subst (λ f. IsTrue (stops_read f)) (sym same) refl
+
+  pub fetch-shares : (lane : LaneView) → IsPassOf m q → KeepsTickets p q → (e : EventFault) → Fetches (Err e) → (n : ℕ) → 0 < n → HasShares m file n p → HasShares m file n q
+  fetch-shares lane mine tickets e t n some shares = shares-after m file (may_read by) n p q (act_of (Err e) t ∷ []) some (fetch-steps lane mine tickets (Err e) t).did shares
+
+  pub refused-cold : (e : EventFault) (block : ℕ) → e ≡ refusal.Cold block → Fetches (Err e) → (from / m.geometry.block_size ≤ block) × (block ≤ (to - 1) / m.geometry.block_size)
+  refused-cold e block is t = cold-met t.turned.value m.geometry.block_size from to block (ap (λ g. g.block_size) (t.turned.stood.holds.same_run.geometry ∙ stripe-sizes m (stripe_at m file (block_at m from)) t.cell laid t.stand.cell_is)) (some-bytes m.geometry.block_size block_size) less (sym is ∙ t.turned.done.refused)
+
+-- a try after a turn that read nothing is a try with it
+pub few-bios : (n sent most : ℕ) → n ≡ min sent most → min (0 + n) most ≡ n
+few-bios n sent most is = omega (arith, is)
+
+pub few-more : (n sent most : ℕ) → n ≡ min sent most → min (n + 0) most ≡ n
+few-more n sent most is = omega (arith, is)
+
+pub tried-after : (m : MountView) (file : FileId) (by : Tag) (from to : ℕ) (a b c : LaneView) (p q r : PassView) (iov later last : IovView) (t : Tried) → 0 < m.geometry.block_size → IsPassOf m p → HasNext iov (to - from)
+    → HasReadFrom m file by from a b p q iov later (progress from 0 None) → TriesPart m file by from to b c q r later last t → TriesPart m file by from to a c p r iov last t
+tried-after m file by from to a b c p q r iov later last t some of room first next =
+    let came = came_by from to t in
+    let fits = room.within in
+    record {
+      read = subst (λ n. HasReadFrom m file by from a c p r iov last (progress came.at n came.fault)) (few-bios came.bios (loans_in next.read.acts) (2 ^ 64 - 1) next.read.bios)
+          (read-then m file by some from from a b c p q r iov later last (progress from 0 None) came of refl (omega (arith, fits)) (λ no. absurd (omega (arith, no))) first next.read);
+      stops = next.stops;
+    }
+
+-- The bytes of a part are yet to be read, up to a place where the part ends or a fault stops the read
+module _ (m : MountView) (file : FileId) (by : Tag) (from to : ℕ) where
+  pub record IsAim (a b : LaneView) (p q : PassView) (iov later : IovView) (aim : Progress) : Type 0 where
+    pub read : HasReadFrom m file by from a b p q iov later (progress from aim.bios aim.fault)
+    pub stops : EndsAt m.geometry.block_size from to aim.at aim.fault
+    pub some : from < aim.at
+
+  abbrev pub RoundIs : LaneView → LaneView → PassView → PassView → IovView → IovView → Round → Type 0
+  RoundIs a b p q iov later (round.Came came) = HasReadUpTo m file by from to a b p q iov later came
+  RoundIs a b p q iov later (round.Again aim) = IsAim a b p q iov later aim
+
+  pub aim-first : from < to → (a : LaneView) (p : PassView) (iov : IovView) → IsPassOf m p → IsAim a a p p iov iov (progress to 0 None)
+  aim-first less a p iov of = record { read = read-none m file by from a p iov of; stops = refl; some = less }
+
+  ends-within : (at : ℕ) (o : Option Fault) → EndsAt m.geometry.block_size from to at o → at ≤ to
+  ends-within at None e = omega (arith, e)
+  ends-within at (Some f) e = (let l = e.0 in omega (arith, l))
+
+  pub aim-within : (a b : LaneView) (p q : PassView) (iov later : IovView) (aim : Progress) → IsAim a b p q iov later aim → aim.at ≤ to
+  aim-within a b p q iov later aim is = ends-within aim.at aim.fault is.stops
+
+  -- nothing was read yet
+  nothing : (xs : List ℕ) (iov later : IovView) → later ≡ written_on xs iov → length xs ≡ from - from → later ≡ iov
+  nothing [] iov later is long = is ∙ written-none iov
+  nothing (x ∷ xs) iov later is long = absurd (omega (arith, long))
+
+  pub aim-iov : (a b : LaneView) (p q : PassView) (iov later : IovView) (aim : Progress) → IsAim a b p q iov later aim → later ≡ iov
+  aim-iov a b p q iov later aim is = nothing (bytes_read m p [] is.read.acts) iov later is.read.bytes is.read.long
+
+  module _ (some : 0 < m.geometry.block_size) (a b c : LaneView) (p q r : PassView) (iov later last : IovView) (of : IsPassOf m p) (room : HasNext iov (to - from)) (aim : Progress) (is : IsAim a b p q iov later aim) where
+    kept : (came : Progress) → came.fault ≡ None → HasReadFrom m file by from b c q r later last came → HasReadFrom m file by from a c p r iov last (progress came.at (more_bios aim.bios came.bios) aim.fault)
+    kept came none next =
+        let fits = room.within in
+        read-kept m file by some from from a b c p q r iov later last (progress from aim.bios aim.fault) came of refl (omega (arith, fits)) (λ no. absurd (omega (arith, no))) is.read next
+
+    stopped : (came : Progress) → HasReadFrom m file by from b c q r later last came → HasReadFrom m file by from a c p r iov last (progress came.at (more_bios aim.bios came.bios) came.fault)
+    stopped came next =
+        let fits = room.within in
+        read-then m file by some from from a b c p q r iov later last (progress from aim.bios aim.fault) came of refl (omega (arith, fits)) (λ no. absurd (omega (arith, no))) is.read next
+
+    round-stopped : (at bios : ℕ) (f : Fault) → HasReadFrom m file by from b c q r later last (progress from bios (Some f)) → (from ≤ at) × (at < aim.at) × ((at ≡ from) ⊎ (at % m.geometry.block_size ≡ 0)) → (t : Bool) → (at == from) ≡ t
+        → RoundIs a c p r iov last (if t then round.Came (progress at (more_bios aim.bios bios) (Some f)) else round.Again (progress at (more_bios aim.bios bios) (Some f)))
+    round-stopped at bios f next within true e =
+        let same = eqb-true at from e in
+        let high = within.1 in
+        let most = aim-within a b p q iov later aim is in
+        record {
+          read = subst (λ n. HasReadFrom m file by from a c p r iov last (progress n (more_bios aim.bios bios) (Some f))) (sym same) (stopped (progress from bios (Some f)) next);
+          stops = (omega (arith, high, most), within.2);
+        }
+    round-stopped at bios f next within false e =
+        let low = within.0 in
+        let high = within.1 in
+        let most = aim-within a b p q iov later aim is in
+        let other : at ≡ from → ⊥ = λ same. false≢true (sym e ∙ eq-eqb at from same) in
+        record {
+          read = stopped (progress from bios (Some f)) next;
+          stops = (omega (arith, high, most), within.2);
+          some = omega (arith, low, other);
+        }
+
+    pub round-so : (t : Tried) → TriesPart m file by from aim.at b c q r later last t → RoundIs a c p r iov last (after_try from aim t)
+    round-so tried.Read next =
+        let bios = few-more aim.bios (loans_in is.read.acts) (2 ^ 64 - 1) is.read.bios in
+        record {
+          read = subst (λ n. HasReadFrom m file by from a c p r iov last (progress aim.at n aim.fault)) bios (kept (progress aim.at 0 None) refl next.read);
+          stops = is.stops;
+        }
+    round-so (tried.Again bios) next = record { read = kept (progress from bios None) refl next.read; stops = is.stops; some = is.some }
+    round-so (tried.Stopped at bios f) next = round-stopped at bios f next.read next.stops (at == from) refl
+
+-- where a file has bytes its blocks have some
+pub some-size : (m : MountView) (file : FileId) (from to : ℕ) → from < to → to ≤ file_end m file → 0 < m.geometry.block_size
+some-size m file from to less within = elim (cases_eq m.geometry.block_size 0) [
+  | inl none ↦ (let zeros : (file_at m file).blocks * m.geometry.block_size ≡ (file_at m file).blocks * 0 = ap (λ n. (file_at m file).blocks * n) none in absurd (omega (arith, zeros, less, within)))
+  | inr some ↦ omega (arith, some)
+]
+
+-- bytes before the end of a part are a part
+pub part-before : (m : MountView) (from to next : ℕ) → part_end m.geometry to from ≡ to → next ≤ to → part_end m.geometry next from ≡ next
+part-before m from to next part before = shorter to next _ part before
+  where
+    shorter : (to next most : ℕ) → min to most ≡ to → next ≤ to → min next most ≡ next
+    shorter to next most is le = omega (arith, is, le)
+
+pub next-fewer : (v : IovView) (n k : ℕ) → k ≤ n → HasNext v n → HasNext v k
+next-fewer v n k fewer room = (let fits = room.within in record { within = omega (arith, fits, fewer); home = λ b low below. room.home b low (omega (arith, below, fewer)) })
+
+-- The next part of a range is one: it has bytes, lies in one folio, and ends with a block or with the range
+pub record IsNextPart (m : MountView) (to at next : ℕ) : Type 0 where
+  pub some : at < next
+  pub within : next ≤ to
+  pub ends : next < to → next % m.geometry.block_size ≡ 0
+  pub part : part_end m.geometry next at ≡ next
+
+pub next-part : (m : MountView) (to at next : ℕ) → IsTrue (is_block_size m.geometry.block_size) → IsTrue (is_folio_blocks m.geometry.folio_blocks) → at < to → next ≡ part_end m.geometry to at → IsNextPart m to at next
+next-part m to at next sized foliod less is =
+    let whole = part-is m.geometry.block_size m.geometry.folio_blocks to at (some-bytes m.geometry.block_size sized) (some-blocks m.geometry.folio_blocks foliod) less in
+    subst (IsNextPart m to at) (sym is) (record { some = whole.some; within = whole.within; ends = whole.ends; part = twice to _ })
+  where
+    twice : (to most : ℕ) → min (min to most) most ≡ min to most
+    twice to most = omega arith

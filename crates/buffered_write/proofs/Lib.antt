@@ -1,0 +1,2 @@
+pub mod AllocCalls
+pub mod AllocLemmas

@@ -1,0 +1,23 @@
+//! What the calls that go through the page cache have in common.
+//!
+//! - `cold`: cold blocks are read into the cache
+//! - `mapped`: a call maps the next part of its range, and ends a mapping
+//! - `part`: how a range is cut into parts, each in one folio
+//! - `progress`: how far a call has come
+//! - `reply`: what a call replies that came so far
+//! - `steps`: steps of a call add up
+#![tactic(auto)]
+
+mod cold;
+mod mapped;
+mod part;
+mod progress;
+mod reply;
+mod steps;
+
+pub use cold::{Fill, bios_of, fill_cold};
+pub use mapped::{finish_mapping, mapping_fault, next_mapping};
+pub use part::{file_end, part_end, read_to, sizes};
+pub use progress::Progress;
+pub use reply::read_reply;
+pub use steps::steps_add_up;
