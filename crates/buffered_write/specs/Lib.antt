@@ -1,1 +1,4 @@
 pub mod Allocates
+pub mod Grows
+pub mod Lays
+pub mod Pwrites
