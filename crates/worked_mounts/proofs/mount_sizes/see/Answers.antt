@@ -1,0 +1,13 @@
+use Rattle.std.proofs.Common.{ap}
+use Rattle.mini_fs.specs.SizeTurns.{without_rooms}
+use Rattle.worked_mounts.proofs.Going.{alone-goes, goes-size, share-goes}
+use Rattle.worked_mounts.proofs.mount_sizes.see.Goals as goal
+
+pub size_turn-requires-clause-leaves : goal.size_turn-requires-clause-leaves
+size_turn-requires-clause-leaves g c = λ opening history before after claims left later out entry d. ap without_rooms d.claims_are
+
+pub returns-clause-alone : goal.returns-clause-alone
+returns-clause-alone g c = alone-goes c.args.mount.now c.args.pass.now c.size_turn.new.pass c.requires c.size_turn.ensures.of (goes-size c.size_turn.ensures.turned)
+
+pub returns-clause-share : goal.returns-clause-share
+returns-clause-share g c = share-goes c.args.pass.now c.size_turn.new.pass (goes-size c.size_turn.ensures.turned)

@@ -1,0 +1,5 @@
+pub mod Alone
+pub mod Begins
+pub mod Buffers
+pub mod Passes
+pub mod Shares
