@@ -1,12 +1,17 @@
 pub mod Appended
+pub mod Asking
 pub mod Computed
 pub mod Cutting
 pub mod Digits
 pub mod Ended
 pub mod Extents
+pub mod Generating
+pub mod Giving
 pub mod Hexes
 pub mod Items
+pub mod Keeping
 pub mod Marking
+pub mod Meeting
 pub mod Naming
 pub mod Places
 pub mod Reading

@@ -3,6 +3,9 @@ pub mod Calling
 pub mod Causes
 pub mod CheckText
 pub mod Checking
+pub mod Generated
+pub mod GeneratedJournal
+pub mod GeneratedReads
 pub mod Grammar
 pub mod GrammarCalls
 pub mod GrammarKinds
@@ -16,5 +19,7 @@ pub mod Ranges
 pub mod Reading
 pub mod Seen
 pub mod SoFar
+pub mod Stripes
+pub mod Summary
 pub mod Texts
 pub mod Told
