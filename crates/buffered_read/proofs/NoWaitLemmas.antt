@@ -1,18 +1,13 @@
 -- What a read that does not wait tells of all its acts.
-use Rattle.std.proofs.Common.{inl, inr, ◌≡◌, ℕ, ◌+◌, ◌-◌, ◌<◌, ◌≤◌, ◌==◌, ◌++◌, ◌∷◌, [], List, min, sum, Bool, true, false, Some, None, length, if◌then◌else◌, refl, sym, ap, ◌∙◌, subst, arith, append-nil, append_assoc}
-use Rattle.std.specs.Prelude.{◌^◌, ◌&&◌, ◌/◌, IfNone, IfSome, IsTrue, Option, nat_lt, slice_get}
-use Rattle.std.proofs.lemmas.Bool.{cases_eq, eq-eqb, eqb-true}
-use Rattle.std.proofs.lemmas.Bool.Decides.{nat_tests}
+use Rattle.std.proofs.Common.{◌≡◌, ℕ, ◌+◌, ◌-◌, ◌<◌, ◌≤◌, ◌++◌, ◌∷◌, [], List, min, sum, Bool, true, false, Some, None, length, refl, sym, ap, ◌∙◌, subst, arith, append-nil}
+use Rattle.std.specs.Prelude.{◌^◌, IfNone, IfSome, IsTrue, Option, slice_get}
 use Rattle.std.proofs.lemmas.List.Elements.{All-nil, All-cons}
 use Rattle.std.proofs.lemmas.Option.{none-some}
 use Rattle.iob_base.specs.declared.answer.Answer.{Answer}
 use Rattle.iob_base.specs.declared.answer.Fault.{Fault}
 use Rattle.iob_base.specs.Geometry.{is_block_size, is_folio_blocks}
 use Rattle.iob_base.specs.Layout.{Layout}
-use Rattle.iob_base.specs.declared.answer.Reply.TheVariants.{Ok, Err}
-use Rattle.iob_base.specs.declared.answer.Stop.TheVariants.{Fault as Short}
 use Rattle.iob_base.specs.declared.stamp.FileId.{FileId}
-use Rattle.iob_base.specs.declared.stamp.Stamp.{Stamp}
 use Rattle.iob_base.specs.declared.stamp.Tag.{Tag}
 use Rattle.io_model.specs.Answered.{answered_in}
 use Rattle.io_model.specs.Lawful.{is_lawful_reply, may_meet}
@@ -23,7 +18,7 @@ use Rattle.turn_cell.specs.Views.{CellView, SeatView}
 use Rattle.range_core.specs.EntryCounts.{has_lent, lendings, one_where}
 use Rattle.range_core.specs.EntryStamps.{stamps_by, stamps_in, stamps_of}
 use Rattle.range_core.specs.RangeView.{RangeView}
-use Rattle.range_core.specs.Stamps.{done_by, stamps_from}
+use Rattle.range_core.specs.Stamps.{done_by}
 use Rattle.range_core.specs.declared.entry.Entry.{Entry}
 use Rattle.range_core.specs.declared.entry.Event.{Event}
 use Rattle.range_core.specs.declared.entry.Outcome.{Outcome}
@@ -33,11 +28,9 @@ use Rattle.range_core.specs.declared.fault.EventFault.TheVariants as refusal
 use Rattle.mount_parts.specs.MountView.{MountView, file_at}
 use Rattle.mini_fs.specs.Acts.{Act, Acted, Acts, own_entries}
 use Rattle.mini_fs.specs.Acts.Act.{Turn, SizeTurn, Busy, Open, Close, Take, Refused, Leave, Run, Note, Number}
-use Rattle.mini_fs.specs.CallActs.{CallActs, IsActAt, is_tag, loans_in, lock_acts, size_acts, tag_of, with_call}
+use Rattle.mini_fs.specs.CallActs.{CallActs, IsActAt, loans_in, lock_acts, size_acts, tag_of, with_call}
 use Rattle.mini_fs.specs.Mappings.{file_end}
 use Rattle.mini_fs.specs.PassView.{IsPassOf, PassView, share_at, share_in}
-use Rattle.mini_fs.specs.TicketView.{TicketView}
-use Rattle.mini_fs.specs.Tickets.{IsTicketOf}
 use Rattle.mini_fs.specs.Turns.{block_at}
 use Rattle.mini_fs.proofs.ActLemmas.{acted-seat}
 use Rattle.mini_fs.proofs.CallLemmas.{call-none, call-then, loans-append, lock_acts-append, own_entries-append, size_acts-append}
@@ -45,7 +38,7 @@ use Rattle.call_parts.specs.Parts.{part_end, part_fetch, read_to, stamps_over}
 use Rattle.call_parts.specs.Reads.{bytes_given, bytes_of_act, bytes_read, given_in}
 use Rattle.call_parts.specs.Replies.{read_reply}
 use Rattle.buffered_read.specs.Tries.{EndsSo, Hinders, IsPartAt, KeepsPass, OnlyTurned, ReadParts, ReadsPart, TriedParts, TriesRead, hindrance, may_fetch}
-use Rattle.call_parts.proofs.NumberLemmas.{answered-so, call-numbered, own-tag, stamps-append, tickets-numbered}
+use Rattle.call_parts.proofs.NumberLemmas.{answered-so, call-numbered, own-tag, stamps-append}
 use Rattle.call_parts.proofs.PartLemmas.{IsPart, over-met, over-none, over-parts, part-is}
 use Rattle.call_parts.proofs.ReadyLemmas.{some-blocks, some-bytes}
 use Rattle.call_parts.proofs.ReplyLemmas.{lawful-read}

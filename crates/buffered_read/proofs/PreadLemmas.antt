@@ -1,64 +1,62 @@
 -- What a read of a file tells of all its acts.
 use Rattle.std.proofs.Common.{inl, inr, ◌≡◌, ℕ, zero, suc, ◌+◌, ◌-◌, ◌<◌, ◌≤◌, ◌==◌, ◌++◌, ◌∷◌, [], List, min, sum, Bool, true, false, Some, Ok, Err, length, if◌then◌else◌, refl, sym, ap, ◌∙◌, subst, arith, append-nil}
-use Rattle.std.specs.Prelude.{◌⊎◌, ◌^◌, ◌&&◌, ◌%◌, All, IfNone, IfOk, IfSome, IsTrue, None, Option, Result, is_some, max, slice_get}
+use Rattle.std.specs.Prelude.{◌⊎◌, ◌^◌, ◌/◌, nat_lt, All, IfNone, IfOk, IfSome, IsTrue, None, Option, Result, is_some, slice_get}
 use Rattle.std.specs.declared.alloc.AllocError.{AllocError}
-use Rattle.std.proofs.lemmas.Bool.{eqb-true, false≢true}
-use Rattle.std.proofs.lemmas.List.Elements.{All-append, All-cons, All-nil}
+use Rattle.std.proofs.lemmas.Bool.{cases_eq, eqb-true, false≢true}
+use Rattle.std.proofs.lemmas.Bool.Decides.{nat_tests}
+use Rattle.std.proofs.lemmas.List.Elements.{All-cons, All-nil, All-weaker}
 use Rattle.std.proofs.lemmas.Option.{slice_get-get_or}
 use Rattle.iob_base.specs.declared.answer.Answer.{Answer}
 use Rattle.iob_base.specs.declared.answer.Fault.{Fault}
 use Rattle.iob_base.specs.declared.answer.Fault.TheVariants as fault
-use Rattle.iob_base.specs.declared.answer.Reply.{Reply}
 use Rattle.iob_base.specs.declared.answer.Reply.TheVariants as reply
 use Rattle.iob_base.specs.declared.stamp.FileId.{FileId}
-use Rattle.iob_base.specs.declared.stamp.Stamp.{Stamp}
 use Rattle.iob_base.specs.declared.stamp.Tag.{Tag}
 use Rattle.io_model.specs.Answered.{answered_in}
 use Rattle.io_model.specs.Lawful.{is_lawful_reply, may_meet}
-use Rattle.io_model.specs.Parts.{range_in, span, span_length}
+use Rattle.io_model.specs.Parts.{blocks_met, range_in, span, span_length}
 use Rattle.io_model.specs.declared.script.Verb.TheVariants.{Pread}
-use Rattle.iov_iter.specs.Home.{AllHome}
 use Rattle.iov_iter.specs.IovView.{IovView, written_on}
 use Rattle.inode_lock.specs.Calls.{IsLeft, IsWon}
-use Rattle.inode_lock.specs.View.{LockView}
 use Rattle.inode_lock.specs.declared.word.Class.TheVariants.{Cached}
 use Rattle.fault_device.specs.LaneView.{LaneView}
 use Rattle.turn_cell.specs.Stakes.{total}
-use Rattle.range_core.specs.ByteRuns.{HasNext}
 use Rattle.range_core.specs.EntryCounts.{lendings}
 use Rattle.range_core.specs.EntryStamps.{stamps_in}
 use Rattle.range_core.specs.Stamps.{done_by}
 use Rattle.range_core.specs.declared.entry.Entry.{Entry}
 use Rattle.range_core.specs.declared.entry.Event.{Event}
-use Rattle.size_core.specs.ClaimsView as size
+use Rattle.range_core.specs.declared.entry.Event.TheVariants as event
 use Rattle.size_core.specs.SizeTurns.{Sees}
-use Rattle.size_core.specs.SizesView.{SizesView}
 use Rattle.size_core.specs.declared.entry.SizeEntry.{SizeEntry}
 use Rattle.size_core.specs.declared.entry.SizeEvent.TheVariants.{See}
 use Rattle.size_core.specs.declared.turns.SeeSize.{SeeSize}
 use Rattle.mount_parts.specs.MountView.{HasFile, IsLaidOut, MountView, file_at, no_file}
 use Rattle.mount_parts.proofs.Places.{set-same}
-use Rattle.mini_fs.specs.Acts.{Act, Acted, Acts, bios_in, last_in, own_entries}
+use Rattle.mini_fs.specs.Acts.{Act, Acted, bios_in, last_in, own_entries}
 use Rattle.mini_fs.specs.Acts.Act.{Leave, Number, SizeTurn, Take}
 use Rattle.mini_fs.specs.CallActs.{CallActs, IsActAt, loans_in, lock_acts, size_acts, tag_of, with_call}
-use Rattle.mini_fs.specs.Calls.{HasShares, KeepsShares, LeavesPass, MayCall}
-use Rattle.mini_fs.specs.Holds.{BringsBack, HoldView, HoldsNone, IsHoldOf, TakesOut}
+use Rattle.mini_fs.specs.Calls.{HasShares, LeavesPass, MayCall}
+use Rattle.mini_fs.specs.Holds.{BringsBack, HoldView, IsHoldOf, TakesOut}
 use Rattle.mini_fs.specs.Mappings.{file_end}
 use Rattle.mini_fs.specs.PassView.{IsPassOf, PassView}
 use Rattle.mini_fs.specs.SizeTurns.{HasSize, TurnsAtSize, cell_in, size_at}
 use Rattle.mini_fs.specs.Tickets.{KeepsTickets}
 use Rattle.mini_fs.proofs.ActLemmas.{left-act, taken-act, turned_size-act}
 use Rattle.mini_fs.proofs.CallEnds.{acted-caller, acted-locks, acted-shares, acted-spare}
-use Rattle.mini_fs.proofs.CallLemmas.{call-none, call-then, loans-append, lock_acts-append, own_entries-append, size_acts-append}
+use Rattle.mini_fs.proofs.CallLemmas.{call-none, call-then, lock_acts-append, own_entries-append, size_acts-append}
 use Rattle.mini_fs.proofs.PassActs.{acted-pass}
+use Rattle.call_parts.specs.Budgets.{AreSound, IsSound, LendsFew, keeps_read}
 use Rattle.call_parts.specs.Causes.{IsCaused}
 use Rattle.call_parts.specs.Parts.{read_to, stamps_over}
-use Rattle.buffered_read.specs.Preads.{EndsAt, HasReadUpTo, may_read, stops_read}
-use Rattle.buffered_read.specs.ReadCalls.{FindsEnd, FoundEnd, LooksAtSize, Preads, ReadStops, ReadsBy, ReadsCut, ReadsHeld, TookCached, found_end}
+use Rattle.buffered_read.specs.Preads.{EndsAt, HasReadUpTo, ReadOn, may_read, stops_read}
+use Rattle.buffered_read.specs.ReadCalls.{FindsEnd, FoundEnd, KeepsBudget, Preads, ReadsBy, ReadsCut, ReadsHeld, found_end}
 use Rattle.call_parts.specs.Reads.{bytes_read}
 use Rattle.call_parts.specs.Replies.{read_reply}
-use Rattle.call_parts.specs.Steps.{ServedBy, Steps, dones_in}
+use Rattle.call_parts.specs.Steps.{ServedBy, dones_in}
 use Rattle.call_parts.specs.declared.progress.Progress.{Progress}
+use Rattle.call_parts.proofs.BudgetLemmas.{how-many-all, loans-few}
+use Rattle.call_parts.proofs.FewLemmas.{few-ended, few-quiet, few-then}
 use Rattle.call_parts.proofs.NumberLemmas.{answered-so, tickets-numbered}
 use Rattle.buffered_read.proofs.ReadLemmas.{bytes-after, over-nothing}
 use Rattle.call_parts.proofs.ReplyLemmas.{MayStop, ranged-so}
@@ -209,6 +207,27 @@ no-memory grain size blocks off lengths cut n some joined = at (sum lengths == 0
     at true e = absurd (let none = eqb-true (sum lengths) 0 e in omega (arith, none, some, joined))
     at false e = refl
 
+-- no block is met by no bytes, and a read that was cut meets the blocks of its range
+met-none : (size from to : ℕ) → to ≤ from → blocks_met size (span from to) ≡ 0
+met-none size from to none = ap (λ b. if b then ((to - 1) / size + 1) - from / size else 0) (let no : nat_lt from to ≡ false = grind (arith, nat_tests, none) in no)
+
+met-cut : (size end off asked : ℕ) → blocks_met size (span off (read_to end off asked)) ≡ blocks_met size (range_in end off asked)
+met-cut size end off asked = cut (min (off + asked) end) (read_to end off asked) (omega arith)
+  where
+    cut : (to at : ℕ) → at ≡ off + (to - off) → blocks_met size (span off at) ≡ blocks_met size (span off to)
+    cut to at is = elim (cases_eq (off - to) 0) [
+      | inl low ↦ (let same : at ≡ to = omega (arith, is, low) in ap (λ n. blocks_met size (span off n)) same)
+      | inr high ↦ met-none size off at (omega (arith, is, high)) ∙ sym (met-none size off to (omega (arith, high)))
+    ]
+
+-- after the turns of a read a block that was read needs no read
+read-keeps : (by : Tag) (e : Event) → IsTrue (may_read by e) → IsTrue (keeps_read e)
+read-keeps by (event.Sample block most) is = refl
+read-keeps by (event.Fetch tag from to) is = refl
+read-keeps by (event.LendRead block most) is = refl
+read-keeps by (event.FillBack ticket block blocks done) is = refl
+read-keeps by e is = absurd (false≢true is)
+
 -- what the acts of a read under its class tell
 module _ (m : MountView) (file : FileId) (by : Tag) (off : ℕ) (a b : LaneView) (p q r : PassView) (iov later : IovView) (answer : Answer) (of : IsPassOf m p) where
   pub held-cut : (found asked : ℕ) → asked ≡ length iov.bytes → FoundEnd m file by asked p q (Ok found) → ReadsCut m file by off found a b q r iov later answer → ReadsHeld m file by off a b p r iov later answer
@@ -241,10 +260,14 @@ module _ (m : MountView) (file : FileId) (by : Tag) (off : ℕ) (a b : LaneView)
           stamps = ap (stamps_in size) own ∙ read.stamps ∙ sym cut.stamps;
           bytes = read.bytes ∙ ap (λ l. written_on l iov) (sym bytes);
           counted = ap length bytes ∙ read.long ∙ (let e : cut.came.at - off ≡ cut.count = omega (arith, place) in e);
+          parts = subst (ReadOn off (off + cut.count)) (sym own) (subst (λ n. ReadOn off n (own_entries read.acts)) (sym place) read.parts);
           reply = cut.reply;
           lawful = cut.lawful;
           cause = subst (λ es. IfSome cut.came.fault (IsCaused es)) (sym own) read.cause;
           bios = cut.bios ∙ read.bios ∙ ap (λ n. min n (2 ^ 64 - 1)) (sym loans);
+          few = subst (λ n. LendsFew m file (λ b. true) (off / size) n cut.came.fault (f.acts ++ read.acts)) (met-cut size found off (length iov.bytes))
+              (few-then m file (λ b. true) (off / size) (blocks_met size (span off (read_to found off (length iov.bytes)))) cut.came.fault f.acts read.acts
+              (few-quiet m file (λ b. true) (off / size) (blocks_met size (span off (read_to found off (length iov.bytes)))) None f.acts (subst AreSound (sym looks.own) (All-nil (λ (e : Entry). IsSound e.event))) (ap (total lendings) looks.own)) cut.read.few);
         };
       }
 
@@ -273,17 +296,19 @@ held-none m file by off a p q iov answer e asked asked_is joined finds is =
         stamps = ap (stamps_in size) looks.own ∙ sym (over-nothing size (done_by by) 0);
         bytes = sym (written-none iov) ∙ ap (λ l. written_on l iov) (sym looks.bytes);
         counted = ap length looks.bytes;
+        parts = subst (ReadOn off (off + 0)) (sym looks.own) (let z : off ≡ off + 0 = omega arith in z);
         reply = refl;
         lawful = no-memory m.geometry.grain size (file_at m file).blocks off iov.lengths (file_end m file) (length iov.bytes) (found-none (file_at m file).size (length iov.bytes) (file_end m file) p.caller by f.acts e f.finds) joined;
         cause = tt;
         bios = ap (λ n. min n (2 ^ 64 - 1)) (sym loans);
+        few = few-quiet m file (λ b. true) (off / size) (blocks_met size (range_in (file_end m file) off (length iov.bytes))) (Some fault.NoMemory) f.acts (subst AreSound (sym looks.own) (All-nil (λ (x : Entry). IsSound x.event))) loans;
       };
     })
 
 -- the acts of a read under its class, with others around them that make no entry, run no bio, meet no size and give no bytes
-reads-around : (m : MountView) (file : FileId) (by : Tag) (off : ℕ) (a b : LaneView) (p start : PassView) (iov later : IovView) (answer : Answer) (inner acts : List Act) → start.caller ≡ p.caller → own_entries acts ≡ own_entries inner → bios_in acts ≡ bios_in inner → size_acts acts ≡ size_acts inner
-    → bytes_read m p [] acts ≡ bytes_read m start [] inner → ReadsBy m file by off a b start iov later answer inner → ReadsBy m file by off a b p iov later answer acts
-reads-around m file by off a b p start iov later answer inner acts caller own bios sizes bytes r =
+unfoldable reads-around : (m : MountView) (file : FileId) (by : Tag) (off : ℕ) (a b : LaneView) (p start : PassView) (iov later : IovView) (answer : Answer) (inner acts : List Act) → start.caller ≡ p.caller → own_entries acts ≡ own_entries inner → bios_in acts ≡ bios_in inner → size_acts acts ≡ size_acts inner
+    → bytes_read m p [] acts ≡ bytes_read m start [] inner → ((low n : ℕ) (o : Option Fault) → LendsFew m file (λ b. true) low n o inner → LendsFew m file (λ b. true) low n o acts) → ReadsBy m file by off a b start iov later answer inner → ReadsBy m file by off a b p iov later answer acts
+reads-around m file by off a b p start iov later answer inner acts caller own bios sizes bytes few r =
     let loans : loans_in acts ≡ loans_in inner = ap (total lendings) own in
     record {
       found = r.found;
@@ -297,10 +322,12 @@ reads-around m file by off a b p start iov later answer inner acts caller own bi
       stamps = ap (stamps_in m.geometry.block_size) own ∙ r.stamps;
       bytes = r.bytes ∙ ap (λ l. written_on l iov) (sym bytes);
       counted = ap length bytes ∙ r.counted;
+      parts = subst (ReadOn off (off + r.count)) (sym own) r.parts;
       reply = r.reply;
       lawful = r.lawful;
       cause = subst (λ es. IfSome r.fault (IsCaused es)) (sym own) r.cause;
       bios = r.bios ∙ ap (λ n. min n (2 ^ 64 - 1)) (sym loans);
+      few = few (off / m.geometry.block_size) (blocks_met m.geometry.block_size (range_in (found_end (file_end m file) r.found) off (length iov.bytes))) r.fault r.few;
     }
 
 -- the call: its number, its class, the read under it, and the end of the class
@@ -356,7 +383,22 @@ module _ (m : MountView) (file : FileId) (call : ℕ) (p p1 p2 : PassView) (hold
       call-did : CallActs m file (may_read (tag_of p call)) p r call_acts
       call-did = call-then m file (may_read (tag_of p call)) p p2 r (Number call ∷ Take file Cached takes.seat hold.seat ∷ []) rest_acts first-did (call-then m file (may_read (tag_of p call)) p2 q r held.acts (last_act ∷ []) held.did last-did)
 
+      call-few : (low n : ℕ) (o : Option Fault) → LendsFew m file (λ b. true) low n o held.acts → LendsFew m file (λ b. true) low n o call_acts
+      call-few low n o few =
+          few-then m file (λ b. true) low n o (Number call ∷ Take file Cached takes.seat hold.seat ∷ []) rest_acts
+          (few-quiet m file (λ b. true) low n None (Number call ∷ Take file Cached takes.seat hold.seat ∷ []) (All-nil (λ (e : Entry). IsSound e.event)) refl)
+          (few-ended m file (λ b. true) low n o held.acts (last_act ∷ []) few (All-nil (λ (e : Entry). IsSound e.event)) refl)
+
+      within-budget : KeepsBudget m file (off / m.geometry.block_size) (blocks_met m.geometry.block_size (range_in (found_end (file_end m file) held.read.found) off (length iov.bytes))) p call_acts
+      within-budget alone happened =
+          let low = off / m.geometry.block_size in
+          let n = blocks_met m.geometry.block_size (range_in (found_end (file_end m file) held.read.found) off (length iov.bytes)) in
+          let few = call-few low n held.read.fault held.read.few in
+          subst (λ k. loans_in call_acts ≤ k) (how-many-all low n)
+          (loans-few m file (λ b. true) low n p call_acts few.among (All-weaker (λ (e : Entry). IsTrue (may_read (tag_of p call) e.event)) (λ (e : Entry). IsTrue (keeps_read e.event)) (λ e is. read-keeps (tag_of p call) e.event is) (own_entries call_acts) call-did.made) few.falls alone happened)
+
       pub pread-so : Preads m file call off a b p r iov later answer
+      unfolding reads-around
       pread-so =
           let own : own_entries rest_acts ≡ own_entries held.acts = own_entries-append held.acts (last_act ∷ []) ∙ append-nil (own_entries held.acts) in
           let bios : bios_in rest_acts ≡ bios_in held.acts = (let two = bios-append held.acts (last_act ∷ []) in omega (arith, two)) in
@@ -372,7 +414,8 @@ module _ (m : MountView) (file : FileId) (call : ℕ) (p p1 p2 : PassView) (hold
               leaves.next,
               ap (λ l. Take file Cached takes.seat hold.seat ∷ l) (lock_acts-append held.acts (last_act ∷ []) ∙ ap (λ l. l ++ last_act ∷ []) held.locks) ∙ ap (λ f. Take file Cached takes.seat hold.seat ∷ Leave f Cached hold.seat leaves.next ∷ []) takes.file_is,
             );
-            read = reads-around m file (tag_of p call) off a b p p2 iov later answer held.acts call_acts (acted-caller (Number call ∷ Take file Cached takes.seat hold.seat ∷ []) p p2 first-acted) own bios sizes bytes held.read;
+            read = reads-around m file (tag_of p call) off a b p p2 iov later answer held.acts call_acts (acted-caller (Number call ∷ Take file Cached takes.seat hold.seat ∷ []) p p2 first-acted) own bios sizes bytes call-few held.read;
+            budget = λ alone happened. within-budget alone happened;
           }
 
       pub pread-leaves : IsPassOf m r → KeepsTickets p1 p2 → KeepsTickets p2 q → KeepsTickets q r → LeavesPass m file call p r

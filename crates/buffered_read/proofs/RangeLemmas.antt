@@ -1,12 +1,13 @@
 -- The bytes of a mapping, between its begin and its end.
-use Rattle.std.proofs.Common.{◌≡◌, ℕ, ◌+◌, ◌-◌, ◌*◌, ◌<◌, ◌≤◌, min, inl, inr, Bool, true, false, Some, List, [], refl, sym, ap, ◌∙◌, subst, arith, mul-le-mul_right, add-mul}
-use Rattle.std.specs.Prelude.{◌^◌, ◌%◌, All, IfSome, IsTrue, MatchOption, None, Option}
+use Rattle.std.proofs.Common.{◌≡◌, ℕ, ◌+◌, ◌-◌, ◌*◌, ◌<◌, ◌≤◌, min, Bool, true, false, Some, List, [], refl, sym, ap, ◌∙◌, subst, arith, mul-le-mul_right, add-mul}
+use Rattle.std.specs.Prelude.{◌^◌, ◌/◌, ◌%◌, All, IfSome, IsTrue, MatchOption, None, Option}
 use Rattle.std.proofs.lemmas.Bool.{false≢true}
 use Rattle.std.proofs.lemmas.List.Elements.{All-weaker}
 use Rattle.std.proofs.Math.Nat.{mul-mod_left}
 use Rattle.iob_base.specs.declared.answer.Fault.{Fault}
 use Rattle.iob_base.specs.declared.stamp.FileId.{FileId}
 use Rattle.iob_base.specs.declared.stamp.Tag.{Tag}
+use Rattle.io_model.specs.Parts.{blocks_met, span}
 use Rattle.iov_iter.specs.IovView.{IovView}
 use Rattle.fault_device.specs.LaneView.{LaneView}
 use Rattle.iomap_core.specs.IterView.{IterView, advanced, began, finished, whole_range}
@@ -17,19 +18,21 @@ use Rattle.range_core.specs.ByteRuns.{HasNext}
 use Rattle.range_core.specs.declared.entry.Entry.{Entry}
 use Rattle.range_core.specs.declared.entry.Event.{Event}
 use Rattle.range_core.specs.declared.entry.Event.TheVariants as event
-use Rattle.mount_parts.specs.MountView.{MountView, file_at}
+use Rattle.mount_parts.specs.MountView.{MountView}
 use Rattle.mini_fs.specs.Acts.{Act, own_entries}
 use Rattle.mini_fs.specs.CallActs.{loans_in}
 use Rattle.mini_fs.specs.Mappings.{IsOpen, Tells, file_end, mapping_in, no_flags}
 use Rattle.mini_fs.specs.PassView.{IsPassOf, PassView}
 use Rattle.mini_fs.specs.declared.begun.Begun.{Begun}
+use Rattle.call_parts.specs.Budgets.{AreSound, IsSound}
 use Rattle.call_parts.specs.Maps.{EndsMapping, Maps, MapsNone, maps}
 use Rattle.buffered_read.specs.Preads.{EndsAt, HasReadFrom, HasReadUpTo, IsDoneTo, IsMappedAt, ReadsMapping, may_read, progress}
 use Rattle.call_parts.specs.Steps.{IsQuiet, Steps}
 use Rattle.buffered_read.specs.Warms.{more_bios}
 use Rattle.call_parts.specs.declared.progress.Progress.{Progress}
+use Rattle.call_parts.proofs.FewLemmas.{few-ended, few-quiet, few-then}
 use Rattle.call_parts.proofs.MapLemmas.{maps-quiet}
-use Rattle.buffered_read.proofs.ReadLemmas.{IsReadSoFar, read-kept, read-quiet, read-then, so-far-at, so-far-next, so-far-none, so-far-short}
+use Rattle.buffered_read.proofs.ReadLemmas.{IsReadSoFar, both, on-quiet, read-kept, read-quiet, read-then, read-up-to, so-far-at, so-far-next, so-far-none, so-far-short}
 use Rattle.call_parts.proofs.StepLemmas.{quiet-bytes, quiet-stamps, steps-may}
 use Rattle.buffered_read.proofs.WarmLemmas.{few-bios, few-more, next-fewer, some-size}
 
@@ -37,6 +40,14 @@ use Rattle.buffered_read.proofs.WarmLemmas.{few-bios, few-more, next-fewer, some
 maps-read : (by : Tag) (e : Event) → IsTrue (maps false e) → IsTrue (may_read by e)
 maps-read by (event.Sample block most) is = refl
 maps-read by e is = absurd (false≢true is)
+
+-- looks bring no read back
+maps-sound : (e : Event) → IsTrue (maps false e) → IsSound e
+maps-sound (event.Sample block most) is = tt
+maps-sound e is = absurd (false≢true is)
+
+looks-sound : (m : MountView) (file : FileId) (a : LaneView) (p q : PassView) (acts : List Act) → Steps m file (maps false) a a p q acts → AreSound (own_entries acts)
+looks-sound m file a p q acts steps = All-weaker (λ (e : Entry). IsTrue (maps false e.event)) (λ (e : Entry). IsSound e.event) (λ e is. maps-sound e.event is) (own_entries acts) steps.did.made
 
 -- begun gave no space
 not-true : (b : Bool) → (b ≡ true → false ≡ true) → b ≡ false
@@ -59,20 +70,21 @@ mapped-at m file pos p q iomap begun maps =
     }
 
 module _ (m : MountView) (file : FileId) (by : Tag) (some : 0 < m.geometry.block_size) where
-  looked-read : (at : ℕ) (a : LaneView) (p q : PassView) (iov : IovView) (acts : List Act) → Steps m file (maps false) a a p q acts → loans_in acts ≡ 0 → HasReadFrom m file by at a a p q iov iov (progress at 0 None)
+  unfoldable looked-read : (at : ℕ) (a : LaneView) (p q : PassView) (iov : IovView) (acts : List Act) → Steps m file (maps false) a a p q acts → loans_in acts ≡ 0 → HasReadFrom m file by at a a p q iov iov (progress at 0 None)
   looked-read at a p q iov acts steps loans =
       let quiet : All IsQuiet (own_entries acts) = All-weaker (λ (e : Entry). IsTrue (maps false e.event)) IsQuiet (λ e is. maps-quiet false e.event is) (own_entries acts) steps.did.made in
-      read-quiet m file by at a a p q iov acts 0 None (steps-may m file (maps false) (may_read by) a a p q acts (maps-read by) steps) (quiet-stamps m.geometry.block_size (own_entries acts) quiet) (quiet-bytes m p [] acts quiet) (ap (λ n. min n (2 ^ 64 - 1)) (sym loans)) tt tt
+      read-quiet m file by at a a p q iov acts 0 None (steps-may m file (maps false) (may_read by) a a p q acts (maps-read by) steps) (quiet-stamps m.geometry.block_size (own_entries acts) quiet) (quiet-bytes m p [] acts quiet) (on-quiet at (own_entries acts) quiet) (ap (λ n. min n (2 ^ 64 - 1)) (sym loans)) tt tt
 
   -- bytes that were read after a mapping was begun
   pub begun-read : (from to : ℕ) (a b : LaneView) (p q r : PassView) (iov later : IovView) (came : Progress) (iomap : Iomap) → IsPassOf m p → HasNext iov (to - from) → Maps m file from false p q iomap → HasReadUpTo m file by from to a b q r iov later came → HasReadUpTo m file by from to a b p r iov later came
+  unfolding read-then both looked-read read-quiet
   begun-read from to a b p q r iov later came iomap of room maps read =
       let fits = room.within in
-      record {
-        read = subst (λ n. HasReadFrom m file by from a b p r iov later (progress came.at n came.fault)) (few-bios came.bios (loans_in read.read.acts) (2 ^ 64 - 1) read.read.bios)
-            (read-then m file by some from from a a b p q r iov iov later (progress from 0 None) came of refl (omega (arith, fits)) (λ no. absurd (omega (arith, no))) (looked-read from a p q iov maps.acts (maps.steps a) maps.loans) read.read);
-        stops = read.stops;
-      }
+      let size = m.geometry.block_size in
+      read-up-to m file by from to a b p r iov later came.at (min (0 + came.bios) (2 ^ 64 - 1)) came.bios came.fault (few-bios came.bios (loans_in read.read.acts) (2 ^ 64 - 1) read.read.bios)
+      (read-then m file by some from from a a b p q r iov iov later (progress from 0 None) came of refl (omega (arith, fits)) (λ no. absurd (omega (arith, no))) (looked-read from a p q iov maps.acts (maps.steps a) maps.loans) read.read)
+      read.stops
+      (few-then m file (λ b. true) (from / size) (blocks_met size (span from to)) came.fault maps.acts read.read.acts (few-quiet m file (λ b. true) (from / size) (blocks_met size (span from to)) None maps.acts (looks-sound m file a p q maps.acts (maps.steps a)) maps.loans) read.few)
 
   ends-within : (from to at : ℕ) (o : Option Fault) → EndsAt m.geometry.block_size from to at o → at ≤ to
   ends-within from to at None e = omega (arith, e)
@@ -83,16 +95,18 @@ module _ (m : MountView) (file : FileId) (by : Tag) (some : 0 < m.geometry.block
 
   -- bytes that were read before a mapping was ended
   pub ended-read : (from to : ℕ) (a b : LaneView) (p q r : PassView) (iov later : IovView) (came : Progress) (new : Bool) → new ≡ false → IsPassOf m p → HasNext iov (to - from) → HasReadUpTo m file by from to a b p q iov later came → EndsMapping m file new q r → HasReadUpTo m file by from to a b p r iov later came
+  unfolding read-kept both looked-read read-quiet
   ended-read from to a b p q r iov later came new none of room read ends =
       let fits = room.within in
       let begins = read.read.begins in
       let most = came-within from to a b p q iov later came read in
-      record {
-        read = subst (λ n. HasReadFrom m file by from a b p r iov later (progress came.at n came.fault)) (few-more came.bios (loans_in read.read.acts) (2 ^ 64 - 1) read.read.bios)
-            (read-kept m file by some from came.at a b b p q r iov later later came (progress came.at 0 None) of refl (omega (arith, fits, begins, most)) (λ first no. absurd (omega (arith, no))) read.read
-            (looked-read came.at b q r later ends.acts (subst (λ w. Steps m file (maps w) b b q r ends.acts) none (ends.steps b)) ends.loans));
-        stops = read.stops;
-      }
+      let size = m.geometry.block_size in
+      let steps = subst (λ w. Steps m file (maps w) b b q r ends.acts) none (ends.steps b) in
+      read-up-to m file by from to a b p r iov later came.at (min (came.bios + 0) (2 ^ 64 - 1)) came.bios came.fault (few-more came.bios (loans_in read.read.acts) (2 ^ 64 - 1) read.read.bios)
+      (read-kept m file by some from came.at a b b p q r iov later later came (progress came.at 0 None) of refl (omega (arith, fits, begins, most)) (λ first no. absurd (omega (arith, no))) read.read
+      (looked-read came.at b q r later ends.acts steps ends.loans))
+      read.stops
+      (few-ended m file (λ b. true) (from / size) (blocks_met size (span from to)) came.fault read.read.acts ends.acts read.few (looks-sound m file b q r ends.acts steps) ends.loans)
 
 -- a mapping is still to be ended where the pass keeps it
 pub unended-kept : (m : MountView) (p q : PassView) (iomap : Iomap) → IsPassOf m q → q.begun ≡ p.begun → IsOpen m p iomap → IsOpen m q iomap

@@ -1,8 +1,8 @@
 -- What one try to read a part of a file's bytes tells, and what the part comes to.
-use Rattle.std.proofs.Common.{◌≡◌, ℕ, zero, ◌+◌, ◌-◌, ◌*◌, ◌<◌, ◌≤◌, ◌==◌, min, inl, inr, Bool, true, false, Some, Ok, Err, List, [], ◌∷◌, ◌++◌, length, take, if◌then◌else◌, refl, sym, ap, ◌∙◌, subst, arith, append-nil, length-take, le-div_iff_mul-le}
+use Rattle.std.proofs.Common.{◌≡◌, ℕ, zero, ◌+◌, ◌-◌, ◌*◌, ◌<◌, ◌≤◌, ◌==◌, min, inl, inr, Bool, true, false, Some, Ok, Err, List, [], ◌∷◌, ◌++◌, length, take, if◌then◌else◌, refl, sym, ap, ◌∙◌, subst, arith, append-nil, div-lt_iff_lt-mul, length-take, le-div_iff_mul-le}
 use Rattle.std.specs.Prelude.{◌⊎◌, ◌/◌, ◌%◌, ◌^◌, All, IfSome, IsTrue, None, Option, Result, max, slice_get, unwrap_or}
 use Rattle.std.proofs.lemmas.Bool.{cases_eq, eq-eqb, eqb-true, false≢true}
-use Rattle.std.proofs.lemmas.List.Elements.{All-cons, All-nil, All-weaker}
+use Rattle.std.proofs.lemmas.List.Elements.{All-append, All-cons, All-nil, All-weaker}
 use Rattle.std.proofs.lemmas.Option.{none-some}
 use Rattle.std.proofs.Math.Nat.{mul-mod_left}
 use Rattle.iob_base.specs.Geometry.{is_block_size, is_folio_blocks}
@@ -10,7 +10,7 @@ use Rattle.iob_base.specs.declared.answer.Fault.{Fault}
 use Rattle.iob_base.specs.declared.answer.Fault.TheVariants as fault
 use Rattle.iob_base.specs.declared.stamp.FileId.{FileId}
 use Rattle.iob_base.specs.declared.stamp.Tag.{Tag}
-use Rattle.io_model.specs.Parts.{span}
+use Rattle.io_model.specs.Parts.{blocks_met, span}
 use Rattle.iov_iter.specs.IovView.{IovView, written_on}
 use Rattle.fault_device.specs.LaneView.{LaneView}
 use Rattle.fault_device.specs.declared.lane.Done.{Done}
@@ -18,12 +18,12 @@ use Rattle.turn_cell.specs.Stakes.{total}
 use Rattle.turn_cell.specs.Views.{CellView, SeatView}
 use Rattle.range_core.specs.ByteRuns.{HasNext}
 use Rattle.range_core.specs.EntryCounts.{lendings}
-use Rattle.range_core.specs.EntryStamps.{stamps_by, stamps_in, stamps_of}
+use Rattle.range_core.specs.EntryStamps.{stamps_in}
 use Rattle.range_core.specs.Fetches.{replayed_run}
 use Rattle.range_core.specs.Outcomes.{finished}
 use Rattle.range_core.specs.RangeView.{RangeView, cells_from}
 use Rattle.range_core.specs.Refusals.{away_with_page, cold, fetch_refusal, first_that_stops, is_cold, met, pageless_at, where_true, ◌orElse◌}
-use Rattle.range_core.specs.Spots.{blocks_met}
+use Rattle.range_core.specs.Spots.{blocks_met as met_blocks}
 use Rattle.range_core.specs.Stamps.{done_by}
 use Rattle.range_core.specs.declared.cell.Cell.{Cell}
 use Rattle.range_core.specs.declared.entry.Entry.{Entry}
@@ -47,14 +47,16 @@ use Rattle.mini_fs.specs.Tickets.{KeepsTickets}
 use Rattle.mini_fs.specs.Turns.{TurnsAt, block_at}
 use Rattle.mini_fs.proofs.ActLemmas.{turned-act}
 use Rattle.mini_fs.proofs.CallEnds.{acted-shares}
+use Rattle.mini_fs.proofs.CallLemmas.{own_entries-append}
 use Rattle.mini_fs.proofs.Layouts.{has_file, stripe-sizes}
-use Rattle.call_parts.specs.Causes.{HasFailed, IsCaused}
+use Rattle.call_parts.specs.Budgets.{AreSound, IsBehind, IsSound, LendsAmong, LendsFew}
+use Rattle.call_parts.specs.Causes.{IsCaused}
 use Rattle.call_parts.specs.Fills.{CameBack, Fills, IsRefusedLoan, fill_refused, fills}
-use Rattle.call_parts.specs.Parts.{part_end, stamps_over}
-use Rattle.buffered_read.specs.Preads.{EndsAt, HasReadFrom, HasReadUpTo, may_read, progress, stops_read}
+use Rattle.call_parts.specs.Parts.{part_end}
+use Rattle.buffered_read.specs.Preads.{EndsAt, HasReadFrom, HasReadUpTo, ReadOn, ReadsFew, may_read, progress, stops_read}
 use Rattle.call_parts.specs.Reads.{bytes_read, given_in, seen_at, seen_by}
 use Rattle.call_parts.specs.Steps.{IsQuiet, ServedBy, Steps, dones_in, is_quiet}
-use Rattle.buffered_read.specs.Warms.{StopsWithin, TriesPart, after_try, came_by, ends_or_goes_on, more_bios, told_fill}
+use Rattle.buffered_read.specs.Warms.{FailsBehind, TriesPart, after_try, came_by, more_bios, told_fill}
 use Rattle.call_parts.specs.declared.cold.Fill.{Fill}
 use Rattle.call_parts.specs.declared.cold.Fill.TheVariants as fill
 use Rattle.call_parts.specs.declared.progress.Progress.{Progress}
@@ -63,8 +65,9 @@ use Rattle.buffered_read.specs.declared.warm.Round.TheVariants as round
 use Rattle.buffered_read.specs.declared.warm.Tried.{Tried}
 use Rattle.buffered_read.specs.declared.warm.Tried.TheVariants as tried
 use Rattle.call_parts.proofs.NumberLemmas.{own-tag}
+use Rattle.call_parts.proofs.FewLemmas.{all-behind, behind-before, few-back, few-none, few-then, few-wider}
 use Rattle.call_parts.proofs.PartLemmas.{IsPart, div-mono, over-met, part-is}
-use Rattle.buffered_read.proofs.ReadLemmas.{read-kept, read-none, read-quiet, read-then}
+use Rattle.buffered_read.proofs.ReadLemmas.{blocks-of, both, on-quiet, read-kept, read-none, read-quiet, read-then, read-up-to}
 use Rattle.call_parts.proofs.ReadyLemmas.{folio-in-stripe, part-block, part-long, some-blocks, some-bytes}
 use Rattle.buffered_read.proofs.SoFarLemmas.{written-none}
 use Rattle.call_parts.proofs.StepLemmas.{quiet-bytes, quiet-stamps, served-none, steps-may}
@@ -99,13 +102,16 @@ module _ (size from to block start : ℕ) (some : 0 < size) (less : from < to) (
         ],
       )
 
+div-below : (a size block : ℕ) → 0 < size → a < block * size → a / size < block
+div-below a size block some less = grind (arith, div-lt_iff_lt-mul)
+
 -- a try to read cold blocks of a part from one of them on
-module _ (m : MountView) (file : FileId) (by : Tag) (from to block most start : ℕ) (some : 0 < m.geometry.block_size) (less : from < to) (last : block ≤ (to - 1) / m.geometry.block_size) (start_is : start ≡ max from (block * m.geometry.block_size)) (a b : LaneView) (p q : PassView) (iov : IovView) where
-  fill-read : (acts : List Act) (bios : ℕ) (fault : Option Fault) → Steps m file fills a b p q acts → loans_in acts ≡ bios → bios ≡ min bios (2 ^ 64 - 1) → IfSome fault (IsCaused (own_entries acts)) → IfSome fault (λ f. IsTrue (stops_read f))
+module _ (m : MountView) (file : FileId) (by : Tag) (from to block most start : ℕ) (some : 0 < m.geometry.block_size) (less : from < to) (first : from / m.geometry.block_size ≤ block) (last : block ≤ (to - 1) / m.geometry.block_size) (start_is : start ≡ max from (block * m.geometry.block_size)) (a b : LaneView) (p q : PassView) (iov : IovView) where
+  unfoldable fill-read : (acts : List Act) (bios : ℕ) (fault : Option Fault) → Steps m file fills a b p q acts → loans_in acts ≡ bios → bios ≡ min bios (2 ^ 64 - 1) → IfSome fault (IsCaused (own_entries acts)) → IfSome fault (λ f. IsTrue (stops_read f))
       → HasReadFrom m file by from a b p q iov iov (progress from bios fault)
   fill-read acts bios fault s sent few cause kind =
       let quiet : All IsQuiet (own_entries acts) = All-weaker (λ (e : Entry). IsTrue (fills e.event)) IsQuiet (λ e is. fills-quiet e.event is) (own_entries acts) s.did.made in
-      read-quiet m file by from a b p q iov acts bios fault (steps-may m file fills (may_read by) a b p q acts (fills-read by) s) (quiet-stamps m.geometry.block_size (own_entries acts) quiet) (quiet-bytes m p [] acts quiet)
+      read-quiet m file by from a b p q iov acts bios fault (steps-may m file fills (may_read by) a b p q acts (fills-read by) s) (quiet-stamps m.geometry.block_size (own_entries acts) quiet) (quiet-bytes m p [] acts quiet) (on-quiet from (own_entries acts) quiet)
       (few ∙ ap (λ n. min n (2 ^ 64 - 1)) (sym sent)) cause kind
 
   back-loans : (acts : List Act) (done : Done) → CameBack p.caller block most (own_entries acts) done → loans_in acts ≡ 1
@@ -118,16 +124,39 @@ module _ (m : MountView) (file : FileId) (by : Tag) (from to block most start : 
   none-loans acts (inl none) = ap (total lendings) none
   none-loans acts (inr h) = refused-loans acts h.0 h.1
 
+  -- the try lends blocks of the part
+  fill-few : (fault : Option Fault) (acts : List Act) → LendsFew m file (λ b. true) block 1 fault acts → ReadsFew m file from to fault acts
+  fill-few fault acts few = (let all = blocks-of m file some from to from to less in few-wider m file (λ b. true) block 1 (from / m.geometry.block_size) (blocks_met m.geometry.block_size (span from to)) fault acts first (omega (arith, all, last)) few)
+
+  -- a block that begins behind others has its last byte before it in one of them
+  blocks-before : (start ≡ from → ⊥) → from / m.geometry.block_size + blocks_met m.geometry.block_size (span from start) ≤ block
+  blocks-before other =
+      let size = m.geometry.block_size in
+      let low : from < start = omega (arith, start_is, other) in
+      let here : start ≡ block * size = omega (arith, start_is, other) in
+      let all = blocks-of m file some from to from start low in
+      let before : (start - 1) / size < block = div-below (start - 1) size block some (omega (arith, here, low)) in
+      omega (arith, all, before)
+
+  back-behind : (limit : ℕ) (acts : List Act) (done : Done) → limit ≤ block → CameBack p.caller block most (own_entries acts) done → All (λ (e : Entry). IsBehind limit e.event) (own_entries acts)
+  back-behind limit acts done low came =
+      subst (All (λ (e : Entry). IsBehind limit e.event)) (sym came.entries_are)
+      (All-cons (λ (e : Entry). IsBehind limit e.event) (entry_by p.caller (event.LendRead block most) (outcome.Lending came.ticket came.blocks)) (entry_by p.caller (event.FillBack came.ticket block came.blocks done) outcome.Finished ∷ []) tt
+      (All-cons (λ (e : Entry). IsBehind limit e.event) (entry_by p.caller (event.FillBack came.ticket block came.blocks done) outcome.Finished) [] (λ failed. low) (All-nil (λ (e : Entry). IsBehind limit e.event))))
+
   pub fill-tried : (f : Fill) → Fills m file block most a b p q f → TriesPart m file by from to a b p q iov iov (told_fill from start f)
-  fill-tried fill.Filled f = record { read = fill-read f.acts 1 None f.steps (back-loans f.acts f.came.0 f.came.1) refl tt tt; stops = tt }
-  fill-tried fill.Again f = record { read = fill-read f.acts 0 None f.steps (refused-loans f.acts f.came.0 f.came.1) refl tt tt; stops = tt }
+  unfolding fill-read read-quiet
+  fill-tried fill.Filled f = record { read = fill-read f.acts 1 None f.steps (back-loans f.acts f.came.0 f.came.1) refl tt tt; stops = tt; few = fill-few None f.acts f.few; behind = tt }
+  fill-tried fill.Again f = record { read = fill-read f.acts 0 None f.steps (refused-loans f.acts f.came.0 f.came.1) refl tt tt; stops = tt; few = fill-few None f.acts f.few; behind = tt }
   fill-tried (fill.Failed at done) f = record {
     read = fill-read f.acts 1 (Some (fault.Eio done.lane done.before done.after)) f.steps (back-loans f.acts done f.came.1) refl
         (subst (λ es. IsCaused es (fault.Eio done.lane done.before done.after)) (sym f.came.1.entries_are) (zero, done, refl, record { failed = f.came.2; lane_is = refl; before_is = refl; after_is = refl }))
         refl;
     stops = start-within m.geometry.block_size from to block start some less last start_is;
+    few = fill-few (Some (fault.Eio done.lane done.before done.after)) f.acts f.few;
+    behind = λ other. back-behind (from / m.geometry.block_size + blocks_met m.geometry.block_size (span from start)) f.acts done (blocks-before other) f.came.1;
   }
-  fill-tried fill.NoMemory f = record { read = fill-read f.acts 0 (Some fault.NoMemory) f.steps (none-loans f.acts f.came) refl tt refl; stops = (omega arith, less, inl refl) }
+  fill-tried fill.NoMemory f = record { read = fill-read f.acts 0 (Some fault.NoMemory) f.steps (none-loans f.acts f.came) refl tt refl; stops = (omega arith, less, inl refl); few = fill-few (Some fault.NoMemory) f.acts f.few; behind = λ other. absurd (other refl) }
 
 -- what a try asks of the blocks of a part from one of them on
 module _ (m : MountView) (file : FileId) (laid : IsLaidOut m) (block_size : IsTrue (is_block_size m.geometry.block_size)) (folio_blocks : IsTrue (is_folio_blocks m.geometry.folio_blocks)) (from to block : ℕ) (less : from < to) (within : to ≤ file_end m file) (part : part_end m.geometry to from ≡ to)
@@ -200,7 +229,7 @@ pub cold-met : (r : RangeView) (size from to block : ℕ) → r.geometry.block_s
 cold-met r size from to block is some less e =
     let b = from / r.geometry.block_size in
     let here = first-cold b block (met r from to) (cold-of (first_that_stops away_with_page b (met r from to)) (first_that_stops cold b (met r from to)) block (away-never b block (met r from to)) e) in
-    let few = few-taken (blocks_met r.geometry.block_size from to) (cells_from r b) in
+    let few = few-taken (met_blocks r.geometry.block_size from to) (cells_from r b) in
     subst (λ n. (from / n ≤ block) × (block ≤ (to - 1) / n)) is
     (let low = here.0 in let high = here.1 in let le = div-mono from (to - 1) r.geometry.block_size (subst (λ n. 0 < n) (sym is) some) (omega (arith, less)) in (low, omega (arith, low, high, few, le)))
 
@@ -214,6 +243,37 @@ shares-after m file may n p q acts some did shares b has = at (slice_get p.strip
     at : (o : Option (SeatView Entry)) → slice_get p.stripes k ≡ o → n ≤ share_at q k
     at None e = (let low = shares b has in let none : share_at p k ≡ 0 = ap share_in e in absurd (omega (arith, low, none, some)))
     at (Some seat) e = (let low = shares b has in let one : share_at p k ≡ seat.share = ap share_in e in let same = acted-shares acts p q did.acted did.closed k seat e in omega (arith, low, one, same))
+
+-- a try after a turn that read nothing is a try with it
+pub few-bios : (n sent most : ℕ) → n ≡ min sent most → min (0 + n) most ≡ n
+few-bios n sent most is = omega (arith, is)
+
+pub few-more : (n sent most : ℕ) → n ≡ min sent most → min (n + 0) most ≡ n
+few-more n sent most is = omega (arith, is)
+
+behind-after : (size from : ℕ) (t : Tried) (first next : List Act) → AreSound (own_entries first) → FailsBehind size from t (own_entries next) → FailsBehind size from t (own_entries (first ++ next))
+behind-after size from tried.Read first next sound behind = tt
+behind-after size from (tried.Again bios) first next sound behind = tt
+behind-after size from (tried.Stopped at bios f) first next sound behind = λ other.
+    (let limit = from / size + blocks_met size (span from at) in
+    subst (All (λ (e : Entry). IsBehind limit e.event)) (sym (own_entries-append first next)) (All-append (λ (e : Entry). IsBehind limit e.event) (own_entries first) (own_entries next) (all-behind limit (own_entries first) sound) (behind other)))
+
+pub tried-after : (m : MountView) (file : FileId) (by : Tag) (from to : ℕ) (a b c : LaneView) (p q r : PassView) (iov later last : IovView) (t : Tried) → 0 < m.geometry.block_size → IsPassOf m p → HasNext iov (to - from)
+    → (first : HasReadFrom m file by from a b p q iov later (progress from 0 None)) → ReadsFew m file from to None first.acts → TriesPart m file by from to b c q r later last t → TriesPart m file by from to a c p r iov last t
+unfolding read-then both
+tried-after m file by from to a b c p q r iov later last t some of room first few next =
+    let came = came_by from to t in
+    let fits = room.within in
+    tried-so (min (0 + came.bios) (2 ^ 64 - 1)) (few-bios came.bios (loans_in next.read.acts) (2 ^ 64 - 1) next.read.bios)
+    (read-then m file by some from from a b c p q r iov later last (progress from 0 None) came of refl (omega (arith, fits)) (λ no. absurd (omega (arith, no))) first next.read)
+    (few-then m file (λ b. true) (from / m.geometry.block_size) (blocks_met m.geometry.block_size (span from to)) came.fault first.acts next.read.acts few next.few)
+    (behind-after m.geometry.block_size from t first.acts next.read.acts (few.sound refl) next.behind)
+  where
+    tried-so : (n : ℕ) → n ≡ (came_by from to t).bios → (read : HasReadFrom m file by from a c p r iov last (progress (came_by from to t).at n (came_by from to t).fault)) → ReadsFew m file from to (came_by from to t).fault read.acts → FailsBehind m.geometry.block_size from t (own_entries read.acts)
+        → TriesPart m file by from to a c p r iov last t
+    tried-so n same read few behind =
+        subst (λ k. (read : HasReadFrom m file by from a c p r iov last (progress (came_by from to t).at k (came_by from to t).fault)) → ReadsFew m file from to (came_by from to t).fault read.acts → FailsBehind m.geometry.block_size from t (own_entries read.acts) → TriesPart m file by from to a c p r iov last t) (sym same)
+        (λ read few behind. record { read = read; stops = next.stops; few = few; behind = behind }) read few behind
 
 -- a fetch that was refused, or gave the bytes of its part
 fetch-loans : (caller : ℕ) (by : Tag) (from to : ℕ) (answer : Result (Unit {0}) EventFault) → total lendings (entry_by caller (event.Fetch by from to) (finished answer) ∷ []) ≡ 0
@@ -239,7 +299,7 @@ module _ (m : MountView) (file : FileId) (by : Tag) (from to : ℕ) (laid : IsLa
   abbrev act_of : (answer : Result (Unit {0}) EventFault) → Fetches answer → Act
   act_of answer t = Turn (stripe_at m file (block_at m from)) t.turned.others t.turned.entry
 
-  fetch-steps : (lane : LaneView) → IsPassOf m q → KeepsTickets p q → (answer : Result (Unit {0}) EventFault) (t : Fetches answer) → Steps m file (may_read by) lane lane p q (act_of answer t ∷ [])
+  pub fetch-steps : (lane : LaneView) → IsPassOf m q → KeepsTickets p q → (answer : Result (Unit {0}) EventFault) (t : Fetches answer) → Steps m file (may_read by) lane lane p q (act_of answer t ∷ [])
   fetch-steps lane mine tickets answer t =
       let own = t.turned.entry in
       let is = t.turned.done.entry_is in
@@ -260,10 +320,10 @@ module _ (m : MountView) (file : FileId) (by : Tag) (from to : ℕ) (laid : IsLa
         tickets = tickets;
       }
 
-  fetch-sent : (answer : Result (Unit {0}) EventFault) (t : Fetches answer) → 0 ≡ min (loans_in (act_of answer t ∷ [])) (2 ^ 64 - 1)
+  pub fetch-sent : (answer : Result (Unit {0}) EventFault) (t : Fetches answer) → 0 ≡ min (loans_in (act_of answer t ∷ [])) (2 ^ 64 - 1)
   fetch-sent answer t = ap (λ n. min n (2 ^ 64 - 1)) (sym (ap (λ (e : Entry). total lendings (e ∷ [])) t.turned.done.entry_is ∙ fetch-loans p.caller by from to answer))
 
-  pub fetch-read : (lane : LaneView) → IsPassOf m q → KeepsTickets p q → (u : Unit {0}) → Fetches (Ok u) → HasReadFrom m file by from lane lane p q iov later (progress to 0 None)
+  unfoldable pub fetch-read : (lane : LaneView) → IsPassOf m q → KeepsTickets p q → (u : Unit {0}) → Fetches (Ok u) → HasReadFrom m file by from lane lane p q iov later (progress to 0 None)
   fetch-read lane mine tickets u t =
       let size = m.geometry.block_size in
       let stripe = stripe_at m file (block_at m from) in
@@ -280,24 +340,51 @@ module _ (m : MountView) (file : FileId) (by : Tag) (from to : ℕ) (laid : IsLa
         begins = omega (arith, less);
         bytes = did.bytes ∙ ap (λ l. written_on l iov) (sym bytes);
         long = ap length bytes ∙ long;
+        parts = subst (λ (e : Entry). ReadOn from to (e ∷ [])) (sym is) (refl, refl);
         stamps = ap (λ (e : Entry). stamps_in size (e ∷ [])) is ∙ append-nil _ ∙ sym (over-met size (some-bytes size block_size) (done_by by) from to less);
         cause = tt;
         kind = tt;
         bios = fetch-sent (Ok u) t;
       }
 
+  -- a fetch lends nothing
+  few-fetch : (stripe : ℕ) (others : List Entry) (low n : ℕ) (o : Option Fault) (answer : Result (Unit {0}) EventFault) → LendsFew m file (λ b. true) low n o (Turn stripe others (entry_by p.caller (event.Fetch by from to) (finished answer)) ∷ [])
+  few-fetch stripe others low n o (Ok u) =
+      let own = entry_by p.caller (event.Fetch by from to) outcome.Finished in
+      record {
+        among = All-cons (LendsAmong m file (λ b. true) low n) (Turn stripe others own) [] tt (All-nil (LendsAmong m file (λ b. true) low n));
+        falls = (tt, tt);
+        sound = λ none. All-cons (λ (e : Entry). IsSound e.event) own [] tt (All-nil (λ (e : Entry). IsSound e.event));
+      }
+  few-fetch stripe others low n o (Err e) =
+      let own = entry_by p.caller (event.Fetch by from to) (outcome.Refused e) in
+      record {
+        among = All-cons (LendsAmong m file (λ b. true) low n) (Turn stripe others own) [] tt (All-nil (LendsAmong m file (λ b. true) low n));
+        falls = (tt, tt);
+        sound = λ none. All-cons (λ (e : Entry). IsSound e.event) own [] tt (All-nil (λ (e : Entry). IsSound e.event));
+      }
+
+  fetch-few : (o : Option Fault) (answer : Result (Unit {0}) EventFault) (t : Fetches answer) → ReadsFew m file from to o (act_of answer t ∷ [])
+  fetch-few o answer t =
+      let stripe = stripe_at m file (block_at m from) in
+      subst (λ (e : Entry). ReadsFew m file from to o (Turn stripe t.turned.others e ∷ [])) (sym t.turned.done.entry_is) (few-fetch stripe t.turned.others (from / m.geometry.block_size) (blocks_met m.geometry.block_size (span from to)) o answer)
+
+  pub fetch-tried : (lane : LaneView) → IsPassOf m q → KeepsTickets p q → (u : Unit {0}) → Fetches (Ok u) → TriesPart m file by from to lane lane p q iov later tried.Read
+  unfolding fetch-read
+  fetch-tried lane mine tickets u t = record { read = fetch-read lane mine tickets u t; stops = tt; few = fetch-few None (Ok u) t; behind = tt }
+
   -- nothing was read, and that is what stops the read, or nothing does
-  pub refused-read : (lane : LaneView) → IsPassOf m q → KeepsTickets p q → (e : EventFault) → Fetches (Err e) → (o : Option Fault) → IfSome o (λ f. f ≡ fault.NoMemory) → HasReadFrom m file by from lane lane p q iov later (progress from 0 o)
-  refused-read lane mine tickets e t o is =
+  unfoldable quiet-read : (lane : LaneView) → IsPassOf m q → KeepsTickets p q → (e : EventFault) → Fetches (Err e) → (o : Option Fault) → IfSome o (λ f. f ≡ fault.NoMemory) → HasReadFrom m file by from lane lane p q iov iov (progress from 0 o)
+  quiet-read lane mine tickets e t o is =
       let size = m.geometry.block_size in
       let entry = t.turned.done.entry_is in
-      subst (λ v. HasReadFrom m file by from lane lane p q iov v (progress from 0 o)) (sym t.turned.done.nothing)
-      (read-quiet m file by from lane lane p q iov (act_of (Err e) t ∷ []) 0 o (fetch-steps lane mine tickets (Err e) t)
+      read-quiet m file by from lane lane p q iov (act_of (Err e) t ∷ []) 0 o (fetch-steps lane mine tickets (Err e) t)
       (ap (λ (x : Entry). stamps_in size (x ∷ [])) entry)
       (ap (λ (x : Entry). bytes_read m p [] (Turn (stripe_at m file (block_at m from)) t.turned.others x ∷ [])) entry ∙ append-nil _ ∙ refused-given (slice_get m.stripes (stripe_at m file (block_at m from))) ((seen_at p (stripe_at m file (block_at m from)) ++ []) ++ t.turned.others) p.caller by from to e)
+      (subst (λ (x : Entry). ReadOn from from (x ∷ [])) (sym entry) refl)
       (fetch-sent (Err e) t)
       (caused-memory (own_entries (act_of (Err e) t ∷ [])) o is)
-      (kind-memory o is))
+      (kind-memory o is)
     where
       caused-memory : (entries : List Entry) (o : Option Fault) → IfSome o (λ f. f ≡ fault.NoMemory) → IfSome o (IsCaused entries)
       caused-memory entries None none = tt
@@ -307,29 +394,32 @@ module _ (m : MountView) (file : FileId) (by : Tag) (from to : ℕ) (laid : IsLa
       kind-memory None none = tt
       kind-memory (Some f) same = subst (λ f. IsTrue (stops_read f)) (sym same) refl
 
+  quiet-few : (lane : LaneView) (mine : IsPassOf m q) (tickets : KeepsTickets p q) (e : EventFault) (t : Fetches (Err e)) (o : Option Fault) (is : IfSome o (λ f. f ≡ fault.NoMemory)) → ReadsFew m file from to o (quiet-read lane mine tickets e t o is).acts
+  unfolding quiet-read read-quiet
+  quiet-few lane mine tickets e t o is = fetch-few o (Err e) t
+
+  -- the part is to be tried again, or there was no memory for its pages
+  pub away-tried : (lane : LaneView) → IsPassOf m q → KeepsTickets p q → (e : EventFault) → Fetches (Err e) → TriesPart m file by from to lane lane p q iov later (tried.Again 0)
+  away-tried lane mine tickets e t =
+      subst (λ v. TriesPart m file by from to lane lane p q iov v (tried.Again 0)) (sym t.turned.done.nothing)
+      (record { read = quiet-read lane mine tickets e t None tt; stops = tt; few = quiet-few lane mine tickets e t None tt; behind = tt })
+
+  pub memory-tried : (lane : LaneView) → IsPassOf m q → KeepsTickets p q → (e : EventFault) → Fetches (Err e) → TriesPart m file by from to lane lane p q iov later (tried.Stopped from 0 fault.NoMemory)
+  memory-tried lane mine tickets e t =
+      subst (λ v. TriesPart m file by from to lane lane p q iov v (tried.Stopped from 0 fault.NoMemory)) (sym t.turned.done.nothing)
+      (record { read = quiet-read lane mine tickets e t (Some fault.NoMemory) refl; stops = (omega arith, less, inl refl); few = quiet-few lane mine tickets e t (Some fault.NoMemory) refl; behind = λ other. absurd (other refl) })
+
+  -- a block was cold, and the part is tried after it
+  pub cold-tried : (a c : LaneView) (r : PassView) (last : IovView) (tr : Tried) → IsPassOf m p → IsPassOf m q → KeepsTickets p q → HasNext iov (to - from) → (e : EventFault) → Fetches (Err e) → TriesPart m file by from to a c q r later last tr → TriesPart m file by from to a c p r iov last tr
+  cold-tried a c r last tr of mine tickets room e t next =
+      tried-after m file by from to a a c p q r iov iov last tr (some-bytes m.geometry.block_size block_size) of room (quiet-read a mine tickets e t None tt) (quiet-few a mine tickets e t None tt)
+      (subst (λ v. TriesPart m file by from to a c q r v last tr) t.turned.done.nothing next)
+
   pub fetch-shares : (lane : LaneView) → IsPassOf m q → KeepsTickets p q → (e : EventFault) → Fetches (Err e) → (n : ℕ) → 0 < n → HasShares m file n p → HasShares m file n q
   fetch-shares lane mine tickets e t n some shares = shares-after m file (may_read by) n p q (act_of (Err e) t ∷ []) some (fetch-steps lane mine tickets (Err e) t).did shares
 
   pub refused-cold : (e : EventFault) (block : ℕ) → e ≡ refusal.Cold block → Fetches (Err e) → (from / m.geometry.block_size ≤ block) × (block ≤ (to - 1) / m.geometry.block_size)
   refused-cold e block is t = cold-met t.turned.value m.geometry.block_size from to block (ap (λ g. g.block_size) (t.turned.stood.holds.same_run.geometry ∙ stripe-sizes m (stripe_at m file (block_at m from)) t.cell laid t.stand.cell_is)) (some-bytes m.geometry.block_size block_size) less (sym is ∙ t.turned.done.refused)
-
--- a try after a turn that read nothing is a try with it
-pub few-bios : (n sent most : ℕ) → n ≡ min sent most → min (0 + n) most ≡ n
-few-bios n sent most is = omega (arith, is)
-
-pub few-more : (n sent most : ℕ) → n ≡ min sent most → min (n + 0) most ≡ n
-few-more n sent most is = omega (arith, is)
-
-pub tried-after : (m : MountView) (file : FileId) (by : Tag) (from to : ℕ) (a b c : LaneView) (p q r : PassView) (iov later last : IovView) (t : Tried) → 0 < m.geometry.block_size → IsPassOf m p → HasNext iov (to - from)
-    → HasReadFrom m file by from a b p q iov later (progress from 0 None) → TriesPart m file by from to b c q r later last t → TriesPart m file by from to a c p r iov last t
-tried-after m file by from to a b c p q r iov later last t some of room first next =
-    let came = came_by from to t in
-    let fits = room.within in
-    record {
-      read = subst (λ n. HasReadFrom m file by from a c p r iov last (progress came.at n came.fault)) (few-bios came.bios (loans_in next.read.acts) (2 ^ 64 - 1) next.read.bios)
-          (read-then m file by some from from a b c p q r iov later last (progress from 0 None) came of refl (omega (arith, fits)) (λ no. absurd (omega (arith, no))) first next.read);
-      stops = next.stops;
-    }
 
 -- The bytes of a part are yet to be read, up to a place where the part ends or a fault stops the read
 module _ (m : MountView) (file : FileId) (by : Tag) (from to : ℕ) where
@@ -337,13 +427,22 @@ module _ (m : MountView) (file : FileId) (by : Tag) (from to : ℕ) where
     pub read : HasReadFrom m file by from a b p q iov later (progress from aim.bios aim.fault)
     pub stops : EndsAt m.geometry.block_size from to aim.at aim.fault
     pub some : from < aim.at
+    pub few : ReadsFew m file from to aim.fault read.acts
+    pub behind : All (λ (e : Entry). IsBehind (from / m.geometry.block_size + blocks_met m.geometry.block_size (span from aim.at)) e.event) (own_entries read.acts)
 
   abbrev pub RoundIs : LaneView → LaneView → PassView → PassView → IovView → IovView → Round → Type 0
   RoundIs a b p q iov later (round.Came came) = HasReadUpTo m file by from to a b p q iov later came
   RoundIs a b p q iov later (round.Again aim) = IsAim a b p q iov later aim
 
   pub aim-first : from < to → (a : LaneView) (p : PassView) (iov : IovView) → IsPassOf m p → IsAim a a p p iov iov (progress to 0 None)
-  aim-first less a p iov of = record { read = read-none m file by from a p iov of; stops = refl; some = less }
+  unfolding read-none read-quiet
+  aim-first less a p iov of = record {
+    read = read-none m file by from a p iov of;
+    stops = refl;
+    some = less;
+    few = few-none m file (λ b. true) (from / m.geometry.block_size) (blocks_met m.geometry.block_size (span from to)) None;
+    behind = All-nil (λ (e : Entry). IsBehind (from / m.geometry.block_size + blocks_met m.geometry.block_size (span from to)) e.event);
+  }
 
   ends-within : (at : ℕ) (o : Option Fault) → EndsAt m.geometry.block_size from to at o → at ≤ to
   ends-within at None e = omega (arith, e)
@@ -361,46 +460,86 @@ module _ (m : MountView) (file : FileId) (by : Tag) (from to : ℕ) where
   aim-iov a b p q iov later aim is = nothing (bytes_read m p [] is.read.acts) iov later is.read.bytes is.read.long
 
   module _ (some : 0 < m.geometry.block_size) (a b c : LaneView) (p q r : PassView) (iov later last : IovView) (of : IsPassOf m p) (room : HasNext iov (to - from)) (aim : Progress) (is : IsAim a b p q iov later aim) where
-    kept : (came : Progress) → came.fault ≡ None → HasReadFrom m file by from b c q r later last came → HasReadFrom m file by from a c p r iov last (progress came.at (more_bios aim.bios came.bios) aim.fault)
+    unfoldable kept : (came : Progress) → came.fault ≡ None → HasReadFrom m file by from b c q r later last came → HasReadFrom m file by from a c p r iov last (progress came.at (more_bios aim.bios came.bios) aim.fault)
     kept came none next =
         let fits = room.within in
         read-kept m file by some from from a b c p q r iov later last (progress from aim.bios aim.fault) came of refl (omega (arith, fits)) (λ no. absurd (omega (arith, no))) is.read next
 
-    stopped : (came : Progress) → HasReadFrom m file by from b c q r later last came → HasReadFrom m file by from a c p r iov last (progress came.at (more_bios aim.bios came.bios) came.fault)
+    unfoldable stopped : (came : Progress) → HasReadFrom m file by from b c q r later last came → HasReadFrom m file by from a c p r iov last (progress came.at (more_bios aim.bios came.bios) came.fault)
     stopped came next =
         let fits = room.within in
         read-then m file by some from from a b c p q r iov later last (progress from aim.bios aim.fault) came of refl (omega (arith, fits)) (λ no. absurd (omega (arith, no))) is.read next
 
-    round-stopped : (at bios : ℕ) (f : Fault) → HasReadFrom m file by from b c q r later last (progress from bios (Some f)) → (from ≤ at) × (at < aim.at) × ((at ≡ from) ⊎ (at % m.geometry.block_size ≡ 0)) → (t : Bool) → (at == from) ≡ t
-        → RoundIs a c p r iov last (if t then round.Came (progress at (more_bios aim.bios bios) (Some f)) else round.Again (progress at (more_bios aim.bios bios) (Some f)))
-    round-stopped at bios f next within true e =
-        let same = eqb-true at from e in
-        let high = within.1 in
+    -- what is tried next lends blocks before those whose read failed
+    few-after : (fault last : Option Fault) (more : List Act) → ReadsFew m file from aim.at fault more → (last ≡ None → (aim.fault ≡ None) × (fault ≡ None)) → ReadsFew m file from to last (is.read.acts ++ more)
+    few-after fault last more few sound =
+        let size = m.geometry.block_size in
+        let low = from / size in
+        let all = blocks_met size (span from to) in
+        let less = blocks_met size (span from aim.at) in
+        let here = is.some in
         let most = aim-within a b p q iov later aim is in
-        record {
-          read = subst (λ n. HasReadFrom m file by from a c p r iov last (progress n (more_bios aim.bios bios) (Some f))) (sym same) (stopped (progress from bios (Some f)) next);
-          stops = (omega (arith, high, most), within.2);
-        }
-    round-stopped at bios f next within false e =
-        let low = within.0 in
-        let high = within.1 in
+        let one = blocks-of m file some from to from aim.at here in
+        let two = blocks-of m file some from to from to (omega (arith, here, most)) in
+        let order = div-mono (aim.at - 1) (to - 1) size some (omega (arith, most)) in
+        few-back m file (λ b. true) low all less (low + less) aim.fault last is.read.acts more (omega (arith, one, two, order)) (omega arith) is.behind
+        (λ none. All-append (λ (e : Entry). IsSound e.event) (own_entries is.read.acts) (own_entries more) (is.few.sound (sound none).0) (few.sound (sound none).1)) is.few
+        (record { among = few.among; falls = few.falls; sound = λ none. few.sound (sound none).1 })
+
+    -- a part that is all read, or stopped where it begins
+    round-came : (at n bios : ℕ) (o : Option Fault) → n ≡ bios → (read : HasReadFrom m file by from a c p r iov last (progress at n o)) → EndsAt m.geometry.block_size from to at o → ReadsFew m file from to o read.acts → HasReadUpTo m file by from to a c p r iov last (progress at bios o)
+    round-came at n bios o = read-up-to m file by from to a c p r iov last at n bios o
+
+    place-is : (at : ℕ) (o : Option Fault) (bios : ℕ) → from ≡ at → (read : HasReadFrom m file by from a c p r iov last (progress from bios o)) → ReadsFew m file from to o read.acts → EndsAt m.geometry.block_size from to at o → HasReadUpTo m file by from to a c p r iov last (progress at bios o)
+    place-is at o bios same = subst (λ n. (read : HasReadFrom m file by from a c p r iov last (progress from bios o)) → ReadsFew m file from to o read.acts → EndsAt m.geometry.block_size from to n o → HasReadUpTo m file by from to a c p r iov last (progress n bios o)) same (λ read few stops. record { read = read; stops = stops; few = few })
+
+    behind-aim : (at : ℕ) (more : List Act) → from < at → at ≤ aim.at → All (λ (e : Entry). IsBehind (from / m.geometry.block_size + blocks_met m.geometry.block_size (span from at)) e.event) (own_entries more)
+        → All (λ (e : Entry). IsBehind (from / m.geometry.block_size + blocks_met m.geometry.block_size (span from at)) e.event) (own_entries (is.read.acts ++ more))
+    behind-aim at more low high behind =
+        let size = m.geometry.block_size in
+        let limit = from / size + blocks_met size (span from at) in
+        let here = is.some in
+        let one = blocks-of m file some from to from at low in
+        let two = blocks-of m file some from to from aim.at here in
+        let order = div-mono (at - 1) (aim.at - 1) size some (omega (arith, high)) in
+        subst (All (λ (e : Entry). IsBehind limit e.event)) (sym (own_entries-append is.read.acts more))
+        (All-append (λ (e : Entry). IsBehind limit e.event) (own_entries is.read.acts) (own_entries more)
+        (behind-before (from / size + blocks_met size (span from aim.at)) limit (own_entries is.read.acts) (omega (arith, one, two, order)) is.behind) behind)
+
+    round-stopped : (at bios : ℕ) (f : Fault) → TriesPart m file by from aim.at b c q r later last (tried.Stopped at bios f) → (t : Bool) → (at == from) ≡ t
+        → RoundIs a c p r iov last (if t then round.Came (progress at (more_bios aim.bios bios) (Some f)) else round.Again (progress at (more_bios aim.bios bios) (Some f)))
+    unfolding stopped read-then both
+    round-stopped at bios f next true e =
+        let same = eqb-true at from e in
+        let high = next.stops.1 in
+        let most = aim-within a b p q iov later aim is in
+        place-is at (Some f) (more_bios aim.bios bios) (sym same) (stopped (progress from bios (Some f)) next.read) (few-after (Some f) (Some f) next.read.acts next.few (λ none. absurd (none-some f (sym none)))) (omega (arith, high, most), next.stops.2)
+    round-stopped at bios f next false e =
+        let low = next.stops.0 in
+        let high = next.stops.1 in
         let most = aim-within a b p q iov later aim is in
         let other : at ≡ from → ⊥ = λ same. false≢true (sym e ∙ eq-eqb at from same) in
         record {
-          read = stopped (progress from bios (Some f)) next;
-          stops = (omega (arith, high, most), within.2);
+          read = stopped (progress from bios (Some f)) next.read;
+          stops = (omega (arith, high, most), next.stops.2);
           some = omega (arith, low, other);
+          few = few-after (Some f) (Some f) next.read.acts next.few (λ none. absurd (none-some f (sym none)));
+          behind = behind-aim at next.read.acts (omega (arith, low, other)) (omega (arith, high)) (next.behind other);
         }
 
     pub round-so : (t : Tried) → TriesPart m file by from aim.at b c q r later last t → RoundIs a c p r iov last (after_try from aim t)
+    unfolding kept read-kept both
     round-so tried.Read next =
-        let bios = few-more aim.bios (loans_in is.read.acts) (2 ^ 64 - 1) is.read.bios in
-        record {
-          read = subst (λ n. HasReadFrom m file by from a c p r iov last (progress aim.at n aim.fault)) bios (kept (progress aim.at 0 None) refl next.read);
-          stops = is.stops;
-        }
-    round-so (tried.Again bios) next = record { read = kept (progress from bios None) refl next.read; stops = is.stops; some = is.some }
-    round-so (tried.Stopped at bios f) next = round-stopped at bios f next.read next.stops (at == from) refl
+        round-came aim.at (more_bios aim.bios 0) aim.bios aim.fault (few-more aim.bios (loans_in is.read.acts) (2 ^ 64 - 1) is.read.bios) (kept (progress aim.at 0 None) refl next.read) is.stops
+        (few-after None aim.fault next.read.acts next.few (λ none. (none, refl)))
+    round-so (tried.Again bios) next = record {
+      read = kept (progress from bios None) refl next.read;
+      stops = is.stops;
+      some = is.some;
+      few = few-after None aim.fault next.read.acts next.few (λ none. (none, refl));
+      behind = behind-aim aim.at next.read.acts is.some (omega arith) (all-behind (from / m.geometry.block_size + blocks_met m.geometry.block_size (span from aim.at)) (own_entries next.read.acts) (next.few.sound refl));
+    }
+    round-so (tried.Stopped at bios f) next = round-stopped at bios f next (at == from) refl
 
 -- where a file has bytes its blocks have some
 pub some-size : (m : MountView) (file : FileId) (from to : ℕ) → from < to → to ≤ file_end m file → 0 < m.geometry.block_size

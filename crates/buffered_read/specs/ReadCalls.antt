@@ -1,5 +1,5 @@
 -- What a call does that reads bytes of a cached file through the page cache.
-use Rattle.std.specs.Prelude.{◌≡◌, ℕ, zero, suc, ◌+◌, ◌-◌, ◌≤◌, ◌^◌, min, true, false, All, IfOk, IfSome, IsTrue, Result, Ok, Err, Option, Some, None, List, [], ◌∷◌, length}
+use Rattle.std.specs.Prelude.{◌≡◌, ℕ, suc, ◌+◌, ◌-◌, ◌/◌, ◌<◌, ◌≤◌, ◌^◌, min, true, false, All, IfOk, IfSome, IsTrue, Result, Ok, Err, Option, Some, List, [], ◌∷◌, length}
 use Rattle.std.specs.declared.alloc.AllocError.{AllocError}
 use Rattle.iob_base.specs.declared.answer.Answer.{Answer}
 use Rattle.iob_base.specs.declared.answer.Fault.{Fault}
@@ -8,7 +8,7 @@ use Rattle.iob_base.specs.declared.stamp.FileId.{FileId}
 use Rattle.iob_base.specs.declared.stamp.Tag.{Tag}
 use Rattle.io_model.specs.Answered.{answered_in}
 use Rattle.io_model.specs.Lawful.{is_lawful_reply}
-use Rattle.io_model.specs.Parts.{range_in, span, span_length}
+use Rattle.io_model.specs.Parts.{blocks_met, range_in, span, span_length}
 use Rattle.io_model.specs.declared.script.Verb.TheVariants.{Pread}
 use Rattle.iov_iter.specs.IovView.{IovView, written_on}
 use Rattle.inode_lock.specs.View.{LockView}
@@ -24,9 +24,10 @@ use Rattle.mini_fs.specs.Acts.Act.{Leave, SizeTurn, Take}
 use Rattle.mini_fs.specs.CallActs.{CallActs, loans_in, lock_acts, size_acts, tag_of}
 use Rattle.mini_fs.specs.Mappings.{file_end}
 use Rattle.mini_fs.specs.PassView.{PassView}
+use Rattle.call_parts.specs.Budgets.{HasHappenedTo, IsAlone, LendsFew}
 use Rattle.call_parts.specs.Causes.{IsCaused}
 use Rattle.call_parts.specs.Parts.{read_to, stamps_over}
-use Rattle.buffered_read.specs.Preads.{EndsAt, HasReadUpTo, may_read}
+use Rattle.buffered_read.specs.Preads.{EndsAt, HasReadUpTo, ReadOn, may_read}
 use Rattle.call_parts.specs.Reads.{bytes_read}
 use Rattle.call_parts.specs.Replies.{read_reply}
 use Rattle.call_parts.specs.Steps.{ServedBy, dones_in}
@@ -74,7 +75,7 @@ pub record ReadsCut (m : MountView) (file : FileId) (by : Tag) (off end : ℕ) (
   pub bios : answer.bios ≡ came.bios
 
 module _ (m : MountView) (file : FileId) where
-  -- Acts of a call that reads bytes from an offset on into an iov, and its answer. They find where the bytes of the file end and read those before it, up to where a fault stops them, as the histories leave them; each answered block is stamped once, in order, and nothing else is. The fault rests on an own entry, the reply is one that the call may have, and each loan was one bio
+  -- Acts of a call that reads bytes from an offset on into an iov, and its answer. They find where the bytes of the file end and read those before it in order, up to where a fault stops them, as the histories leave them; each answered block is stamped once, in order, and nothing else is. The fault rests on an own entry, the reply is one that the call may have, and each loan was one bio
   pub record ReadsBy (by : Tag) (off : ℕ) (before after : LaneView) (p : PassView) (iov later : IovView) (answer : Answer) (acts : List Act) : Type 0 where
     pub found : Result ℕ AllocError
     pub count : ℕ
@@ -87,10 +88,12 @@ module _ (m : MountView) (file : FileId) where
     pub stamps : stamps_in m.geometry.block_size (own_entries acts) ≡ stamps_over m.geometry.block_size (answered_in m.geometry.block_size (range_in (found_end (file_end m file) found) off (length iov.bytes)) false answer.reply) (done_by by)
     pub bytes : later ≡ written_on (bytes_read m p [] acts) iov
     pub counted : length (bytes_read m p [] acts) ≡ count
+    pub parts : ReadOn off (off + count) (own_entries acts)
     pub reply : answer.reply ≡ read_reply (length iov.bytes) (span_length (range_in (found_end (file_end m file) found) off (length iov.bytes))) count fault
     pub lawful : IsTrue (is_lawful_reply m.geometry.grain m.geometry.block_size (file_at m file).blocks (range_in (found_end (file_end m file) found) off (length iov.bytes)) true (Pread off iov.lengths) answer.reply)
     pub cause : IfSome fault (IsCaused (own_entries acts))
     pub bios : answer.bios ≡ min (loans_in acts) (2 ^ 64 - 1)
+    pub few : LendsFew m file (λ b. true) (off / m.geometry.block_size) (blocks_met m.geometry.block_size (range_in (found_end (file_end m file) found) off (length iov.bytes))) fault acts
 
   -- A read under a class that is held: its acts are at no lock and begin no call
   pub record ReadsHeld (by : Tag) (off : ℕ) (before after : LaneView) (p q : PassView) (iov later : IovView) (answer : Answer) : Type 0 where
@@ -104,9 +107,14 @@ module _ (m : MountView) (file : FileId) where
 abbrev pub TookCached : FileId → List Act → Type 0
 TookCached file acts = (a b c d : LockView) × (lock_acts acts ≡ Take file Cached a b ∷ Leave file Cached c d ∷ [])
 
--- What a call did that reads bytes of a cached file from an offset on into an iov, under the cached class
+-- no more bios are sent than so many blocks from one on, where no entry of anybody else stands between those of the acts
+abbrev pub KeepsBudget : MountView → FileId → ℕ → ℕ → PassView → List Act → Type 0
+KeepsBudget m file low n p acts = IsAlone acts → ((b : ℕ) → low ≤ b → b < low + n → HasHappenedTo m file p acts b) → loans_in acts ≤ n
+
+-- What a call did that reads bytes of a cached file from an offset on into an iov, under the cached class. Where nobody else comes between, it sends at most one bio for each block of its range
 pub record Preads (m : MountView) (file : FileId) (call off : ℕ) (before after : LaneView) (p q : PassView) (iov later : IovView) (answer : Answer) : Type 0 where
   pub acts : List Act
   pub did : CallActs m file (may_read (tag_of p call)) p q acts
   pub class : TookCached file acts
   pub read : ReadsBy m file (tag_of p call) off before after p iov later answer acts
+  pub budget : KeepsBudget m file (off / m.geometry.block_size) (blocks_met m.geometry.block_size (range_in (found_end (file_end m file) read.found) off (length iov.bytes))) p acts

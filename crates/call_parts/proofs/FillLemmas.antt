@@ -1,7 +1,8 @@
 -- Tries that read cold blocks into the cache, from the turns that they are made of.
 use Rattle.std.proofs.Common.{◌≡◌, ℕ, ◌+◌, ◌-◌, ◌<◌, ◌≤◌, inl, inr, true, false, Bool, List, [], ◌∷◌, ◌++◌, length, if◌then◌else◌, refl, sym, ap, ◌∙◌, subst, arith}
-use Rattle.std.specs.Prelude.{◌%◌, IsTrue, Ok, Err, Option, Result, Some, option_to_list, slice_get}
+use Rattle.std.specs.Prelude.{◌%◌, IsTrue, None, Ok, Err, Option, Result, Some, option_to_list, slice_get}
 use Rattle.std.proofs.lemmas.List.Elements.{All-cons, All-nil}
+use Rattle.std.proofs.lemmas.Option.{none-some}
 use Rattle.iob_base.specs.declared.part.Part.{Part}
 use Rattle.iob_base.specs.declared.stamp.FileId.{FileId}
 use Rattle.iob_base.specs.declared.stamp.Mode.TheVariants.{Cached}
@@ -40,10 +41,12 @@ use Rattle.mini_fs.proofs.ActLemmas.{closed-act, opened-act, turned-act}
 use Rattle.mini_fs.proofs.Loaned.{run-ticket}
 use Rattle.mini_fs.proofs.PassActs.{acted-pass}
 use Rattle.mini_fs.proofs.Ready.{run-lies, stripe-here}
-use Rattle.call_parts.specs.Fills.{CameBack, CarriedBack, FillCame, Fills, IsRefusedLoan, fill_after, fill_refused, fills}
+use Rattle.call_parts.specs.Budgets.{IsReadBelow, IsSound, LendsAmong}
+use Rattle.call_parts.specs.Fills.{CameBack, CarriedBack, FillCame, Fills, IsRefusedLoan, fill_after, fill_fault, fill_refused, fills}
 use Rattle.call_parts.specs.Steps.{ServedBy}
 use Rattle.call_parts.specs.declared.cold.Fill.{Fill}
 use Rattle.call_parts.specs.declared.cold.Fill.TheVariants.{Failed, Filled, NoMemory}
+use Rattle.call_parts.proofs.FewLemmas.{few-none}
 use Rattle.call_parts.proofs.StepLemmas.{served-none, steps-none}
 
 -- one bio was run
@@ -143,12 +146,20 @@ refused-so caller block most entries refusal.NoMemory is = inr (refusal.NoMemory
 refused-so caller block most entries (refusal.NoSpace wanted found) is = inr (refusal.NoSpace wanted found, is, refl)
 refused-so caller block most entries (refusal.Poison done) is = inr (refusal.Poison done, is, refl)
 
+-- where no fault stops a call, the read did not fail
+back-sound : (block : ℕ) (lent : Lent) (caller : ℕ) (done : Done) → fill_fault (fill_after block done) ≡ None → IsSound (back_entry caller block lent done).event
+back-sound block lent caller done none = at done.failed refl none
+  where
+    at : (t : Bool) → done.failed ≡ t → fill_fault (if t then Failed block done else Filled) ≡ None → done.failed ≡ false
+    at true e none = absurd (none-some _ (sym none))
+    at false e none = e
+
 module _ (m : MountView) (file : FileId) (block most : ℕ) (p q : PassView) (has : HasBlock m file block) (of : IsPassOf m q) (keeps : KeepsTickets p q) where
   -- a try whose loan came back, from all its acts
-  fill-so : (before after : LaneView) (s : ℕ) (others more : List Entry) (lent : Lent) (done : Done) → s ≡ stripe_at m file block
+  fill-so : (before after : LaneView) (s : ℕ) (others more : List Entry) (lent : Lent) (done : Done) → s ≡ stripe_at m file block → 0 < length lent.parts
       → Acted (Open s ∷ Turn s others (loan_entry p.caller block most lent) ∷ Run 1 ∷ Turn s more (back_entry p.caller block lent done) ∷ Close s ∷ []) p q
       → ServedBy before after (done ∷ []) → Fills m file block most before after p q (fill_after block done)
-  fill-so before after s others more lent done at acted lane =
+  fill-so before after s others more lent done at some acted lane =
       let lends = loan_entry p.caller block most lent in
       let returns = back_entry p.caller block lent done in
       let last : List Act = Turn s more returns ∷ Close s ∷ [] in
@@ -178,6 +189,14 @@ module _ (m : MountView) (file : FileId) (block most : ℕ) (p q : PassView) (ha
           tickets = keeps;
         };
         came = after-so p.caller block most (own_entries acts) done (record { ticket = lent.ticket; blocks = length lent.parts; entries_are = refl });
+        few = record {
+          among = All-cons (LendsAmong m file (λ b. true) block 1) (Open s) (Turn s others lends ∷ Run 1 ∷ last) tt
+              (All-cons (LendsAmong m file (λ b. true) block 1) (Turn s others lends) (Run 1 ∷ last) (omega arith, omega arith, refl, at, some)
+              (All-cons (LendsAmong m file (λ b. true) block 1) (Run 1) last tt
+              (All-cons (LendsAmong m file (λ b. true) block 1) (Turn s more returns) (Close s ∷ []) tt (All-cons (LendsAmong m file (λ b. true) block 1) (Close s) [] tt (All-nil (LendsAmong m file (λ b. true) block 1))))));
+          falls = (tt, (λ failed. All-nil (λ (e : Entry). IsReadBelow block e.event e.outcome), tt));
+          sound = λ none. All-cons (λ (e : Entry). IsSound e.event) lends (returns ∷ []) tt (All-cons (λ (e : Entry). IsSound e.event) returns [] (back-sound block lent p.caller done none) (All-nil (λ (e : Entry). IsSound e.event)));
+        };
       }
 
   -- a try whose loan was refused, from all its acts
@@ -209,11 +228,17 @@ module _ (m : MountView) (file : FileId) (block most : ℕ) (p q : PassView) (ha
           tickets = keeps;
         };
         came = refused-so p.caller block most (own_entries acts) fault refl;
+        few = record {
+          among = All-cons (LendsAmong m file (λ b. true) block 1) (Open s) (Turn s others lends ∷ Close s ∷ []) tt
+              (All-cons (LendsAmong m file (λ b. true) block 1) (Turn s others lends) (Close s ∷ []) tt (All-cons (LendsAmong m file (λ b. true) block 1) (Close s) [] tt (All-nil (LendsAmong m file (λ b. true) block 1))));
+          falls = (tt, tt);
+          sound = λ none. All-cons (λ (e : Entry). IsSound e.event) lends [] tt (All-nil (λ (e : Entry). IsSound e.event));
+        };
       }
 
 -- a try without memory does nothing
 pub fills-none : (m : MountView) (file : FileId) (block most : ℕ) (lane : LaneView) (p : PassView) → IsPassOf m p → Fills m file block most lane lane p p NoMemory
-fills-none m file block most lane p of = record { acts = []; steps = steps-none m file fills lane p of; came = inl refl }
+fills-none m file block most lane p of = record { acts = []; steps = steps-none m file fills lane p of; came = inl refl; few = few-none m file (λ b. true) block 1 (fill_fault NoMemory) }
 
 -- the turn of a loan was one of the pass
 module _ (m : MountView) (file : FileId) (block most : ℕ) (p p1 p2 q : PassView) (t u : TicketView) (parts : List Part) (held kept : Option Held) (c d : ClaimsView) (answer : Result Lent LendRefused)
@@ -250,7 +275,7 @@ module _ (m : MountView) (file : FileId) (block most : ℕ) (p p1 p2 q : PassVie
       subst (λ n. Acted (Run 1 ∷ Turn s carry.others (back_entry n block lent done) ∷ Close s ∷ []) p2 q) caller
       (subst (λ b. Acted (Run 1 ∷ Turn s carry.others (back_entry p2.caller b lent done) ∷ Close s ∷ []) p2 q) begins
       (subst (λ k. Acted (Run 1 ∷ Turn k carry.others (back_entry p2.caller lent.block lent done) ∷ Close k ∷ []) p2 q) (same ∙ home) carry.acted)) in
-      subst (Fills m file block most before after p q) (sym told) (fill-so m file block most p q has of keeps before after s others carry.others lent done refl (p1, opened-act opened more, (p2, turned, ended)) carry.lane)
+      subst (Fills m file block most before after p q) (sym told) (fill-so m file block most p q has of keeps before after s others carry.others lent done refl (let n = did.run.some in omega (arith, n, many)) (p1, opened-act opened more, (p2, turned, ended)) carry.lane)
 
   -- a try whose loan was refused
   pub unfilled : (lane : LaneView) (refused : LendRefused) (fill : Fill) → answer ≡ Err refused → IsTicketOf p2 u → ClosedTicket p2 u q → fill ≡ fill_refused refused.fault → Fills m file block most lane lane p q fill

@@ -5,3 +5,5 @@ pub mod PartLemmas
 pub mod ReadyLemmas
 pub mod ReplyLemmas
 pub mod StepLemmas
+pub mod BudgetLemmas
+pub mod FewLemmas

@@ -1,5 +1,8 @@
 -- What a try does that reads cold blocks of a file into the cache.
-use Rattle.std.specs.Prelude.{◌≡◌, ◌⊎◌, ℕ, Bool, true, false, if◌then◌else◌, List, [], ◌∷◌, length}
+use Rattle.std.specs.Prelude.{◌≡◌, ◌⊎◌, ℕ, Bool, true, false, if◌then◌else◌, Option, Some, None, List, [], ◌∷◌, length}
+use Rattle.iob_base.specs.declared.answer.Fault.{Fault}
+use Rattle.iob_base.specs.declared.answer.Fault.TheVariants.{Eio}
+use Rattle.iob_base.specs.declared.answer.Fault.TheVariants.{NoMemory as WantsMemory}
 use Rattle.iob_base.specs.declared.stamp.FileId.{FileId}
 use Rattle.fault_device.specs.LaneView.{LaneView}
 use Rattle.fault_device.specs.declared.lane.Done.{Done}
@@ -15,6 +18,7 @@ use Rattle.mini_fs.specs.Acts.{Act, Acted, own_entries}
 use Rattle.mini_fs.specs.Acts.Act.{Close, Run, Turn}
 use Rattle.mini_fs.specs.PageTurns.{entry_by}
 use Rattle.mini_fs.specs.PassView.{PassView}
+use Rattle.call_parts.specs.Budgets.{LendsFew}
 use Rattle.call_parts.specs.Steps.{ServedBy, Steps}
 use Rattle.call_parts.specs.declared.cold.Fill.{Fill}
 use Rattle.call_parts.specs.declared.cold.Fill.TheVariants.{Again, Failed, Filled, NoMemory}
@@ -65,8 +69,16 @@ bios_of Filled = 1
 bios_of (Failed block done) = 1
 bios_of _ = 0
 
+-- what stops a call whose try came to this: a read that failed, and want of memory
+abbrev pub fill_fault : Fill → Option Fault
+fill_fault Filled = None
+fill_fault Again = None
+fill_fault (Failed block done) = Some (Eio done.lane done.before done.after)
+fill_fault NoMemory = Some WantsMemory
+
 -- One try to read cold blocks from one on, at most so many: a step that makes no other events, and what it came to
 pub record Fills (m : MountView) (file : FileId) (block most : ℕ) (before after : LaneView) (p q : PassView) (fill : Fill) : Type 0 where
   pub acts : List Act
   pub steps : Steps m file fills before after p q acts
   pub came : FillCame p.caller block most (own_entries acts) fill
+  pub few : LendsFew m file (λ b. true) block 1 (fill_fault fill) acts

@@ -5,3 +5,4 @@ pub mod Parts
 pub mod Reads
 pub mod Replies
 pub mod Steps
+pub mod Budgets

@@ -7,24 +7,29 @@ use Rattle.bio_pages.specs.Lists.{OwnFailures}
 use Rattle.bio_pages.specs.Running.{HasRun}
 use Rattle.range_core.specs.declared.entry.Entry.{Entry}
 use Rattle.range_core.specs.declared.entry.Event.{Event}
-use Rattle.range_core.specs.declared.entry.Event.TheVariants.{Attach, DirectBack, DropClean, FillBack, LendRead, LendWriteback, PartBack, Preallocate, Reserve, Sample, Unreserve, WrittenBack}
+use Rattle.range_core.specs.declared.entry.Event.TheVariants.{Attach, DaxGet, DaxPut, DaxZero, DirectBack, DirectNow, DropClean, FillBack, LendRead, LendWriteback, PartBack, Preallocate, Reserve, Sample, Unreserve, WrittenBack}
 use Rattle.range_core.specs.declared.entry.Outcome.{Outcome}
-use Rattle.range_core.specs.declared.entry.Outcome.TheVariants.{Counted, Finished}
+use Rattle.range_core.specs.declared.entry.Outcome.TheVariants.{Counted, Finished, Refused}
+use Rattle.range_core.specs.declared.fault.EventFault.TheVariants.{Poison}
 use Rattle.mount_parts.specs.MountView.{MountView}
 use Rattle.mini_fs.specs.Acts.{Act, bios_in, own_entries}
 use Rattle.mini_fs.specs.CallActs.{CallActs, loans_in, lock_acts, size_acts}
 use Rattle.mini_fs.specs.PassView.{IsPassOf, PassView}
 use Rattle.mini_fs.specs.Tickets.{KeepsTickets}
 
--- what the transfer did of which an event took the blocks back
+-- what the transfer did of which an event took the blocks back, or the judgement that failed within the event
 abbrev pub done_of : Event → Outcome → List Done
 done_of (FillBack ticket block blocks done) Finished = done ∷ []
 done_of (WrittenBack ticket block kind blocks done) (Counted n) = done ∷ []
 done_of (DirectBack by op ticket block kind pages done) Finished = done ∷ []
 done_of (PartBack by ticket block kind from to bytes done) Finished = done ∷ []
+done_of (DirectNow by block blocks) (Refused (Poison done)) = done ∷ []
+done_of (DaxGet by seen from to) (Refused (Poison done)) = done ∷ []
+done_of (DaxPut by seen from to bytes) (Refused (Poison done)) = done ∷ []
+done_of (DaxZero by seen from to) (Refused (Poison done)) = done ∷ []
 done_of _ _ = []
 
--- what the transfers did of which entries took the blocks back, in order
+-- what the transfers did of which entries took the blocks back, and the judgements that failed within entries, in order
 abbrev pub dones_in : List Entry → List Done
 dones_in [] = []
 dones_in (e ∷ entries) = done_of e.event e.outcome ++ dones_in entries

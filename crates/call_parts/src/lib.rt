@@ -1,5 +1,6 @@
 //! What the calls that go through the page cache have in common.
 //!
+//! - `budget`: how many bios a call needs that reads cold blocks
 //! - `cold`: cold blocks are read into the cache
 //! - `mapped`: a call maps the next part of its range, and ends a mapping
 //! - `part`: how a range is cut into parts, each in one folio
@@ -8,6 +9,7 @@
 //! - `steps`: steps of a call add up
 #![tactic(auto)]
 
+mod budget;
 mod cold;
 mod mapped;
 mod part;
@@ -15,6 +17,7 @@ mod progress;
 mod reply;
 mod steps;
 
+pub use budget::loans_are_few;
 pub use cold::{Fill, bios_of, fill_cold};
 pub use mapped::{finish_mapping, mapping_fault, next_mapping};
 pub use part::{file_end, part_end, read_to, sizes};

@@ -1,4 +1,4 @@
-use Rattle.std.proofs.Common.{◌-◌, sym, ap, ◌∙◌, refl, subst, arith}
+use Rattle.std.proofs.Common.{◌-◌, sym, ap, ◌∙◌, refl, arith}
 use Rattle.mini_fs.proofs.CallEnds.{acted-caller}
 use Rattle.call_parts.specs.Parts.{part_end}
 use Rattle.buffered_read.specs.Preads.{may_read}

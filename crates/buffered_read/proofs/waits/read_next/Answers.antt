@@ -1,4 +1,4 @@
-use Rattle.std.proofs.Common.{◌+◌, ◌<◌, false, None, inl, refl, sym, ap, ◌∙◌, subst, arith}
+use Rattle.std.proofs.Common.{◌+◌, ◌<◌, false, None, inl, sym, ap, ◌∙◌, subst, arith}
 use Rattle.fault_device.specs.LaneView.{lane_of}
 use Rattle.iomap_core.specs.IterView.{IterView}
 use Rattle.range_core.specs.ByteRuns.{HasNext}

@@ -1,4 +1,4 @@
-use Rattle.std.proofs.Common.{◌≡◌, ◌+◌, ◌-◌, ◌≤◌, refl, sym, ap, ◌∙◌, subst, arith}
+use Rattle.std.proofs.Common.{◌≡◌, ◌+◌, ◌-◌, ◌≤◌, sym, ap, ◌∙◌, subst, arith}
 use Rattle.range_core.specs.ByteRuns.{HasNext}
 use Rattle.mount_parts.specs.MountView.{HasFile, file_at}
 use Rattle.mini_fs.specs.Calls.{HasShares}

@@ -14,5 +14,5 @@ returns-clause-tried g c =
     let size = c.from-size.ensures ∙ c.block_size.ensures.value ∙ ap (λ v. v.block_size) c.sizes.ensures.is in
     let start : c.max-start.result ≡ max c.args.from (c.args.block * c.args.mount.now.geometry.block_size) = c.max-start.ensures ∙ ap (λ n. max c.args.from (c.args.block * n)) size in
     λ by iov. subst (TriesPart c.args.mount.now c.args.file by c.args.from c.args.to _ _ c.args.pass.now c.fill_cold.new.pass iov iov) (sym c.told_fill.ensures)
-    (fill-tried c.args.mount.now c.args.file by c.args.from c.args.to c.args.block _ c.max-start.result (some-bytes c.args.mount.now.geometry.block_size c.sizes.ensures.blocks) c.requires.some c.requires.last start _ _ c.args.pass.now c.fill_cold.new.pass iov
+    (fill-tried c.args.mount.now c.args.file by c.args.from c.args.to c.args.block _ c.max-start.result (some-bytes c.args.mount.now.geometry.block_size c.sizes.ensures.blocks) c.requires.some c.requires.first c.requires.last start _ _ c.args.pass.now c.fill_cold.new.pass iov
     c.fill_cold.result c.fill_cold.ensures.filled)

@@ -1,10 +1,9 @@
-use Rattle.std.proofs.Common.{None, Some, ap, refl, subst, inl, arith}
-use Rattle.iob_base.specs.declared.answer.Fault.TheVariants.{NoMemory}
+use Rattle.std.proofs.Common.{None, ap, subst, arith}
 use Rattle.fault_device.specs.LaneView.{lane_of}
 use Rattle.range_core.specs.Fetches.{CanFetch}
 use Rattle.mini_fs.specs.PassView.{PassView}
-use Rattle.call_parts.proofs.ReadyLemmas.{part-ready, some-bytes}
-use Rattle.buffered_read.proofs.WarmLemmas.{fetch-read, fetch-shares, refused-cold, refused-read, tried-after}
+use Rattle.call_parts.proofs.ReadyLemmas.{part-ready}
+use Rattle.buffered_read.proofs.WarmLemmas.{away-tried, cold-tried, fetch-shares, fetch-tried, memory-tried, refused-cold}
 use Rattle.buffered_read.proofs.warm.try_part.Goals as goal
 
 pub fetch-requires-clause-ready : goal.fetch-requires-clause-ready
@@ -25,33 +24,21 @@ fill_part-requires-clause-shares g c = fetch-shares c.args.mount.now c.args.file
     (lane_of 0 0 None) c.in-Err-Cold.ensures.of c.in-Err-Cold.ensures.tickets _ c.in-Err-Cold.ensures.turned 2 (omega arith) c.requires.shares
 
 pub returns-in-Ok-clause-tried : goal.returns-in-Ok-clause-tried
-returns-in-Ok-clause-tried g c = record {
-  read = fetch-read c.args.mount.now c.args.file c.args.by c.args.from c.args.to c.is_laid_out.ensures c.sizes.ensures.blocks c.sizes.ensures.folios c.requires.some c.requires.within c.requires.part c.args.pass.now c.fetch.new.pass c.args.iov.now c.fetch.new.iov _
-      c.in-Ok.ensures.of c.in-Ok.ensures.tickets tt c.in-Ok.ensures.turned;
-  stops = tt;
-}
+returns-in-Ok-clause-tried g c = fetch-tried c.args.mount.now c.args.file c.args.by c.args.from c.args.to c.is_laid_out.ensures c.sizes.ensures.blocks c.sizes.ensures.folios c.requires.some c.requires.within c.requires.part c.args.pass.now c.fetch.new.pass c.args.iov.now c.fetch.new.iov _
+    c.in-Ok.ensures.of c.in-Ok.ensures.tickets tt c.in-Ok.ensures.turned
 
 pub returns-in-Err-Away-clause-tried : goal.returns-in-Err-Away-clause-tried
-returns-in-Err-Away-clause-tried g c = record {
-  read = refused-read c.args.mount.now c.args.file c.args.by c.args.from c.args.to c.is_laid_out.ensures c.sizes.ensures.blocks c.sizes.ensures.folios c.requires.some c.requires.within c.requires.part c.args.pass.now c.fetch.new.pass c.args.iov.now c.fetch.new.iov _
-      c.in-Err-Away.ensures.of c.in-Err-Away.ensures.tickets _ c.in-Err-Away.ensures.turned None tt;
-  stops = tt;
-}
+returns-in-Err-Away-clause-tried g c = away-tried c.args.mount.now c.args.file c.args.by c.args.from c.args.to c.is_laid_out.ensures c.sizes.ensures.blocks c.sizes.ensures.folios c.requires.some c.requires.within c.requires.part c.args.pass.now c.fetch.new.pass c.args.iov.now c.fetch.new.iov _
+    c.in-Err-Away.ensures.of c.in-Err-Away.ensures.tickets _ c.in-Err-Away.ensures.turned
 
 pub returns-in-Err-Cold-clause-tried : goal.returns-in-Err-Cold-clause-tried
-returns-in-Err-Cold-clause-tried g c =
-    tried-after c.args.mount.now c.args.file c.args.by c.args.from c.args.to _ _ _ c.args.pass.now c.fetch.new.pass c.fill_part.new.pass c.args.iov.now c.fetch.new.iov c.fetch.new.iov c.fill_part.result (some-bytes c.args.mount.now.geometry.block_size c.sizes.ensures.blocks) c.requires.of c.requires.room
-    (refused-read c.args.mount.now c.args.file c.args.by c.args.from c.args.to c.is_laid_out.ensures c.sizes.ensures.blocks c.sizes.ensures.folios c.requires.some c.requires.within c.requires.part c.args.pass.now c.fetch.new.pass c.args.iov.now c.fetch.new.iov _
-    c.in-Err-Cold.ensures.of c.in-Err-Cold.ensures.tickets _ c.in-Err-Cold.ensures.turned None tt)
-    (c.fill_part.ensures.tried c.args.by c.fetch.new.iov)
+returns-in-Err-Cold-clause-tried g c = cold-tried c.args.mount.now c.args.file c.args.by c.args.from c.args.to c.is_laid_out.ensures c.sizes.ensures.blocks c.sizes.ensures.folios c.requires.some c.requires.within c.requires.part c.args.pass.now c.fetch.new.pass c.args.iov.now c.fetch.new.iov
+    _ _ c.fill_part.new.pass c.fetch.new.iov c.fill_part.result c.requires.of c.in-Err-Cold.ensures.of c.in-Err-Cold.ensures.tickets c.requires.room _ c.in-Err-Cold.ensures.turned (c.fill_part.ensures.tried c.args.by c.fetch.new.iov)
 
 pub returns-in-Err : goal.returns-in-Err
 returns-in-Err g c = record {
   of = c.in-Err.ensures.of;
   begun = ap (λ (v : PassView). v.begun) c.in-Err.ensures.turned.pass_is;
-  tried = record {
-    read = refused-read c.args.mount.now c.args.file c.args.by c.args.from c.args.to c.is_laid_out.ensures c.sizes.ensures.blocks c.sizes.ensures.folios c.requires.some c.requires.within c.requires.part c.args.pass.now c.fetch.new.pass c.args.iov.now c.fetch.new.iov _
-        c.in-Err.ensures.of c.in-Err.ensures.tickets _ c.in-Err.ensures.turned (Some NoMemory) refl;
-    stops = (omega arith, c.requires.some, inl refl);
-  };
+  tried = memory-tried c.args.mount.now c.args.file c.args.by c.args.from c.args.to c.is_laid_out.ensures c.sizes.ensures.blocks c.sizes.ensures.folios c.requires.some c.requires.within c.requires.part c.args.pass.now c.fetch.new.pass c.args.iov.now c.fetch.new.iov _
+      c.in-Err.ensures.of c.in-Err.ensures.tickets _ c.in-Err.ensures.turned;
 }
