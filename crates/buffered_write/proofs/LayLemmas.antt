@@ -1,6 +1,6 @@
 -- What is laid over a file by steps one after another.
-use Rattle.std.proofs.Common.{inl, inr, ◌≡◌, ℕ, zero, suc, ◌+◌, ◌-◌, ◌<◌, ◌≤◌, ◌++◌, ◌∷◌, [], List, min, length, take, drop, refl, sym, ap, ◌∙◌, subst, arith, append-nil, append_assoc, length-append, true, false}
-use Rattle.std.specs.Prelude.{◌⊎◌, ◌^◌, ◌%◌, Bool, IfSome, None, Option, Some}
+use Rattle.std.proofs.Common.{inl, inr, ◌≡◌, ℕ, ◌+◌, ◌-◌, ◌<◌, ◌≤◌, ◌++◌, ◌∷◌, [], List, min, length, take, drop, refl, sym, ap, ◌∙◌, subst, arith, append-nil, append_assoc, length-append}
+use Rattle.std.specs.Prelude.{◌^◌, ◌%◌, Bool, IfSome, IsTrue, None, Option, Some}
 use Rattle.std.proofs.lemmas.Bool.{cases_eq}
 use Rattle.std.proofs.Math.Seq.{take-add}
 use Rattle.iob_base.specs.declared.answer.Fault.{Fault}
@@ -9,24 +9,23 @@ use Rattle.iob_base.specs.declared.stamp.Stamp.{Stamp}
 use Rattle.iob_base.specs.declared.stamp.Tag.{Tag}
 use Rattle.io_model.specs.Parts.{span}
 use Rattle.fault_device.specs.LaneView.{LaneView}
-use Rattle.range_core.specs.EntryStamps.{stamps_in, stamps_of}
+use Rattle.range_core.specs.EntryStamps.{stamps_in}
 use Rattle.range_core.specs.Stamps.{done_by}
 use Rattle.range_core.specs.declared.entry.Entry.{Entry}
 use Rattle.range_core.specs.declared.entry.Event.{Event}
 use Rattle.mount_parts.specs.MountView.{MountView}
-use Rattle.mini_fs.specs.Acts.{Act, own_entries}
+use Rattle.mini_fs.specs.Acts.{own_entries}
 use Rattle.mini_fs.specs.CallActs.{loans_in}
 use Rattle.mini_fs.specs.PassView.{PassView}
 use Rattle.mini_fs.proofs.CallLemmas.{loans-append, own_entries-append}
 use Rattle.call_parts.specs.Causes.{IsCaused}
-use Rattle.buffered_write.specs.Lays.{EndsAt, FollowOn, HasLaid, IsLeftAt, Laid, Meet, LaysNothing, LieOn, bytes_laid, laid_by, laid_in}
+use Rattle.buffered_write.specs.Lays.{FollowOn, HasLaid, Laid, Meet, LaysNothing, LieOn, bytes_laid, laid_by, laid_in}
 use Rattle.call_parts.specs.Parts.{stamps_over}
 use Rattle.buffered_write.specs.Pwrites.{followed, progress}
-use Rattle.call_parts.specs.Steps.{Steps}
 use Rattle.call_parts.specs.declared.progress.Progress.{Progress}
 use Rattle.call_parts.proofs.NumberLemmas.{stamps-append}
 use Rattle.call_parts.proofs.PartLemmas.{over-none, over-parts}
-use Rattle.call_parts.proofs.StepLemmas.{caused-right, steps-then}
+use Rattle.call_parts.proofs.StepLemmas.{caused-left, caused-right, steps-may, steps-then}
 
 -- what two lists of entries laid
 pub laid-append : (size : ℕ) (es more : List Entry) → laid_in size (es ++ more) ≡ laid_in size es ++ laid_in size more
@@ -135,3 +134,45 @@ module _ (m : MountView) (may : Event → Bool) (file : FileId) where
           cause = subst (λ l. IfSome next.fault (IsCaused l)) (sym own) (caused-last (own_entries one.acts) (own_entries two.acts) next.fault two.cause);
           bios = bios-both came.bios next.bios (loans_in one.acts) (loans_in two.acts) one.bios two.bios ∙ ap (λ n. min n (2 ^ 64 - 1)) (sym (loans-append one.acts two.acts));
         }
+
+module _ (m : MountView) (file : FileId) (may might : Event → Bool) (wider : (e : Event) → IsTrue (may e) → IsTrue (might e)) where
+  -- a step that lays nothing and may make only such events is one that may make more
+  pub nothing-may : (a b : LaneView) (p q : PassView) (bios : ℕ) (fault : Option Fault) → LaysNothing m may file a b p q bios fault → LaysNothing m might file a b p q bios fault
+  nothing-may a b p q bios fault n = record {
+    acts = n.acts;
+    steps = steps-may m file may might a b p q n.acts wider n.steps;
+    laid = n.laid;
+    stamps = n.stamps;
+    cause = n.cause;
+    sent = n.sent;
+  }
+
+module _ (m : MountView) (may : Event → Bool) (file : FileId) (by : Tag) where
+  caused-first : (before after : List Entry) (fault : Option Fault) → IfSome fault (IsCaused before) → IfSome fault (IsCaused (before ++ after))
+  caused-first before after None cause = tt
+  caused-first before after (Some fault) cause = caused-left before after fault cause
+
+  -- a step that lays nothing behind bytes that were laid leaves what they came to, and their fault
+  pub laid-quiet : (from : ℕ) (bytes : List ℕ) (a b c : LaneView) (p q r : PassView) (came : Progress) → HasLaid m may file by from bytes a b p q came → LaysNothing m may file b c q r 0 None → HasLaid m may file by from bytes a c p r came
+  laid-quiet from bytes a b c p q r came one n =
+      let size = m.geometry.block_size in
+      let own = own_entries-append one.acts n.acts in
+      let sent = n.sent in
+      let none : loans_in n.acts ≡ 0 = omega (arith, sent) in
+      record {
+        acts = one.acts ++ n.acts;
+        steps = steps-then m file may a b c p q r one.acts n.acts one.steps n.steps;
+        begins = one.begins;
+        laid = subst (λ l. LieOn from came.at (take (came.at - from) bytes) l)
+            (sym (ap (laid_in size) own ∙ laid-append size (own_entries one.acts) (own_entries n.acts) ∙ ap (λ l. laid_in size (own_entries one.acts) ++ l) n.laid ∙ append-nil (laid_in size (own_entries one.acts)))) one.laid;
+        stamps = ap (stamps_in size) own ∙ stamps-append size (own_entries one.acts) (own_entries n.acts) ∙ ap (λ l. stamps_in size (own_entries one.acts) ++ l) n.stamps ∙ append-nil (stamps_in size (own_entries one.acts)) ∙ one.stamps;
+        cause = subst (λ l. IfSome came.fault (IsCaused l)) (sym own) (caused-first (own_entries one.acts) (own_entries n.acts) came.fault one.cause);
+        bios = one.bios ∙ ap (λ k. min k (2 ^ 64 - 1)) (let z : loans_in one.acts ≡ loans_in (one.acts ++ n.acts) = (let h = loans-append one.acts n.acts in omega (arith, h, none)) in z);
+      }
+
+module _ (m : MountView) (may : Event → Bool) (file : FileId) (by : Tag) (some : 0 < m.geometry.block_size) (from : ℕ) (bytes more : List ℕ) (a b c : LaneView) (p q r : PassView) (came next : Progress) (whole : came.fault ≡ None) (rest : more ≡ drop (came.at - from) bytes)
+    (meet : Meet m.geometry.block_size from came.at next.at) (one : HasLaid m may file by from bytes a b p q came) (two : HasLaid m may file by came.at more b c q r next) where
+  -- the acts of both steps are the whole's
+  pub acts-then : (laid-then m may file by some from bytes more a b c p q r came next whole rest meet one two).acts ≡ one.acts ++ two.acts
+  unfolding laid-then
+  acts-then = refl

@@ -1,9 +1,9 @@
 -- What a whole write tells, from what it did under the exclusive class.
-use Rattle.std.proofs.Common.{inl, inr, ◌≡◌, ℕ, ◌+◌, ◌-◌, ◌*◌, ◌<◌, ◌≤◌, ◌==◌, ◌++◌, ◌∷◌, [], List, min, Bool, true, false, Some, None, Ok, Err, length, drop, take, refl, sym, ap, ◌∙◌, subst, arith, append-nil, if◌then◌else◌}
-use Rattle.std.specs.Prelude.{◌^◌, All, IfSome, IsTrue, Option, slice_get, slice_set}
+use Rattle.std.proofs.Common.{◌≡◌, ℕ, ◌+◌, ◌-◌, ◌<◌, ◌≤◌, ◌++◌, ◌∷◌, [], List, min, true, false, Some, None, Ok, Err, length, drop, take, refl, sym, ap, ◌∙◌, subst, arith, append-nil}
+use Rattle.std.specs.Prelude.{◌^◌, All, IfSome, IsTrue, Option}
 use Rattle.std.specs.List.{concat}
 use Rattle.std.proofs.lemmas.Bool.{false≢true}
-use Rattle.std.proofs.lemmas.List.Elements.{All-cons, All-nil}
+use Rattle.std.proofs.lemmas.List.Elements.{All-nil}
 use Rattle.iob_base.specs.Geometry.{is_block_size}
 use Rattle.iob_base.specs.declared.answer.Answer.{Answer}
 use Rattle.iob_base.specs.declared.answer.Fault.{Fault}
@@ -14,7 +14,6 @@ use Rattle.iob_base.specs.declared.stamp.FileId.{FileId}
 use Rattle.iob_base.specs.declared.stamp.Mode.TheVariants.{Cached}
 use Rattle.iob_base.specs.declared.stamp.Tag.{Tag}
 use Rattle.inode_lock.specs.Calls.{IsLeft, IsWon}
-use Rattle.inode_lock.specs.View.{LockView}
 use Rattle.size_core.specs.declared.entry.SizeEntry.{SizeEntry}
 use Rattle.size_core.specs.declared.entry.SizeEvent.{SizeEvent}
 use Rattle.size_core.specs.declared.entry.SizeEvent.TheVariants.{Ready}
@@ -34,10 +33,9 @@ use Rattle.range_core.specs.declared.entry.Entry.{Entry}
 use Rattle.mount_parts.specs.MountView.{MountView, file_at}
 use Rattle.turn_cell.specs.Stakes.{total}
 use Rattle.range_core.specs.EntryCounts.{lendings}
-use Rattle.mount_parts.proofs.Places.{set-same}
-use Rattle.mini_fs.specs.Acts.{Act, Acted, Acts, bios_in, closed_in, opened_in, own_entries}
+use Rattle.mini_fs.specs.Acts.{Act, Acts, bios_in, own_entries}
 use Rattle.mini_fs.specs.Acts.Act.{Leave, Number, SizeTurn, Take}
-use Rattle.mini_fs.specs.CallActs.{CallActs, IsActAt, lock_acts, size_acts, tag_of, with_call}
+use Rattle.mini_fs.specs.CallActs.{CallActs, lock_acts, size_acts, tag_of, with_call}
 use Rattle.mini_fs.specs.Calls.{HasShares, LeavesPass, MayCall}
 use Rattle.mini_fs.specs.Holds.{BringsBack, HoldView, HoldsNone, IsHoldOf, TakesOut}
 use Rattle.mini_fs.specs.Mappings.{file_end}
@@ -45,16 +43,19 @@ use Rattle.mini_fs.specs.PassView.{IsPassOf, PassView}
 use Rattle.mini_fs.specs.SizeTurns.{HasSize, size_at}
 use Rattle.mini_fs.specs.Tickets.{IsTicketOf, KeepsTickets}
 use Rattle.mini_fs.proofs.ActLemmas.{left-act, taken-act}
-use Rattle.mini_fs.proofs.CallEnds.{acted-caller, acted-locks, acted-shares, acted-spare}
+use Rattle.mini_fs.proofs.CallEnds.{acted-caller, acted-shares, acted-spare}
 use Rattle.mini_fs.proofs.CallLemmas.{call-then, lock_acts-append, own_entries-append, size_acts-append}
 use Rattle.call_parts.specs.Causes.{IsCaused}
 use Rattle.buffered_write.specs.Grows.{AreSizeTurns, GrowsSize, MadeRoom, MeetsSize, TurnedAtSize, grown, size_entry}
 use Rattle.buffered_write.specs.Lays.{EndsAt, GoesOn, LieOn, laid_in}
+use Rattle.buffered_write.specs.LaysLocked.{HoldsClass}
 use Rattle.call_parts.specs.Parts.{read_to, stamps_over}
-use Rattle.buffered_write.specs.Pwrites.{IsLocked, IsPlain, IsUnlocked, Pwrites, TakesClass, UsesRoom, Writes, WroteWith, has_room, may_write, progress, write_reply}
+use Rattle.buffered_write.specs.Pwrites.{IsLocked, IsPlain, IsUnlocked, Pwrites, UsesRoom, Writes, WroteWith, has_room, may_write, progress, write_reply}
 use Rattle.call_parts.specs.Replies.{read_reply}
 use Rattle.call_parts.specs.Steps.{ServedBy, dones_in}
 use Rattle.call_parts.specs.declared.progress.Progress.{Progress}
+use Rattle.buffered_write.proofs.LaidLemmas.{IsBare, bare-call, held-after}
+use Rattle.buffered_write.proofs.DataReplyLemmas.{left-after}
 use Rattle.buffered_write.proofs.LayLemmas.{lie-none}
 use Rattle.call_parts.proofs.NumberLemmas.{answered-so, call-numbered, tickets-numbered}
 use Rattle.call_parts.proofs.ReadyLemmas.{some-bytes}
@@ -62,14 +63,6 @@ use Rattle.buffered_write.proofs.RoomLemmas.{size-is}
 use Rattle.call_parts.proofs.StepLemmas.{bios-append, served-none, steps-none}
 use Rattle.buffered_write.proofs.StoredLemmas.{nothing-writes}
 use Rattle.buffered_write.proofs.WriteReplyLemmas.{ends-short, lawful-write, reply-empty, reply-far, reply-room, room-empty, room-far, room-some, stamps-none}
-
--- a hold is still the pass's after acts that meet no lock
-pub held-after : {m : MountView} (p q : PassView) (acts : List Act) (h : HoldView) → Acted acts p q → lock_acts acts ≡ [] → IsHoldOf m p h → IsHoldOf m q h
-held-after p q acts h did none is = record {
-  caller = is.caller ∙ sym (acted-caller acts p q did);
-  lock = is.lock;
-  out = ap (λ l. slice_get l h.file.0) (acted-locks acts p q did none) ∙ is.out;
-}
 
 module _ (m : MountView) (file : FileId) (by : Tag) where
   -- a pass that took the class goes on
@@ -82,26 +75,7 @@ module _ (m : MountView) (file : FileId) (by : Tag) where
     shares = subst (λ (v : PassView). HasShares m file 2 v) (sym t.pass_is) goes.shares;
   }
 
--- An act of a write that makes no entry at a stripe and runs no bio: it takes or leaves the class of the file, or meets its size
-pub record IsBare (m : MountView) (file : FileId) (act : Act) (p q : PassView) : Type 0 where
-  pub did : Acts act p q
-  pub here : IsActAt m file act
-  pub own : own_entries (act ∷ []) ≡ []
-  pub bios : bios_in (act ∷ []) ≡ 0
-  pub closed : (k : ℕ) → opened_in k (act ∷ []) ≡ closed_in k (act ∷ [])
-  pub caller : q.caller ≡ p.caller
-  pub last : q.last ≡ p.last
-  pub tickets : KeepsTickets p q
-
 module _ (m : MountView) (file : FileId) (by : Tag) where
-  bare-call : (act : Act) (p q : PassView) → IsBare m file act p q → CallActs m file (may_write by) p q (act ∷ [])
-  bare-call act p q bare = record {
-    acted = (q, bare.did, refl);
-    at_file = All-cons (IsActAt m file) act [] bare.here (All-nil (IsActAt m file));
-    made = subst (All (λ (e : Entry). IsTrue (may_write by e.event))) (sym bare.own) (All-nil (λ (e : Entry). IsTrue (may_write by e.event)));
-    closed = bare.closed;
-  }
-
   module _ (from : ℕ) (a b : LaneView) (iov later : IovView) (came : Progress) where
     -- the same entries, told of other acts of the same pass
     told-so : (Also Other : List Act → Type 0) (p q r s : PassView) (w : WroteWith Also m file by from a b p q iov later came) (acts : List Act) → own_entries acts ≡ own_entries w.acts → bios_in acts ≡ bios_in w.acts → p.caller ≡ r.caller → q.last ≡ p.last → Other acts → IsPassOf m s
@@ -130,14 +104,14 @@ module _ (m : MountView) (file : FileId) (by : Tag) where
         let bios = bios-append (act ∷ []) w.acts in
         let none = bare.bios in
         told-so Also Other q r p r w (act ∷ w.acts) (own_entries-append (act ∷ []) w.acts ∙ ap (λ l. l ++ own_entries w.acts) bare.own) (omega (arith, bios, none)) bare.caller w.last also w.of
-        (call-then m file (may_write by) p q r (act ∷ []) w.acts (bare-call act p q bare) w.did) (w.last ∙ bare.last) (λ t is. w.tickets t (bare.tickets t is))
+        (call-then m file (may_write by) p q r (act ∷ []) w.acts (bare-call m file (may_write by) act p q bare) w.did) (w.last ∙ bare.last) (λ t is. w.tickets t (bare.tickets t is))
 
     pub wrote-before : (Also Other : List Act → Type 0) (p q r : PassView) (act : Act) → IsBare m file act q r → IsPassOf m r → (w : WroteWith Also m file by from a b p q iov later came) → Other (w.acts ++ act ∷ []) → WroteWith Other m file by from a b p r iov later came
     wrote-before Also Other p q r act bare of w also =
         let bios = bios-append w.acts (act ∷ []) in
         let none = bare.bios in
         told-so Also Other p q p r w (w.acts ++ act ∷ []) (own_entries-append w.acts (act ∷ []) ∙ ap (λ l. own_entries w.acts ++ l) bare.own ∙ append-nil (own_entries w.acts)) (omega (arith, bios, none)) refl w.last also of
-        (call-then m file (may_write by) p q r w.acts (act ∷ []) w.did (bare-call act q r bare)) (bare.last ∙ w.last) (λ t is. bare.tickets t (w.tickets t is))
+        (call-then m file (may_write by) p q r w.acts (act ∷ []) w.did (bare-call m file (may_write by) act q r bare)) (bare.last ∙ w.last) (λ t is. bare.tickets t (w.tickets t is))
 
     -- what was written under mappings met no lock and no size
     pub wrote-plain : (p q : PassView) → Writes m file by from a b p q iov later came → WroteWith IsPlain m file by from a b p q iov later came
@@ -160,7 +134,7 @@ module _ (m : MountView) (file : FileId) (by : Tag) where
     })
 
   -- a turn at the size of the file is bare
-  bare-size : (e : SizeEvent) (p q : PassView) (others : List SizeEntry) → HasSize m file → Acts (SizeTurn (size_at m file) others (size_entry p.caller e)) p q → KeepsTickets p q → IsBare m file (SizeTurn (size_at m file) others (size_entry p.caller e)) p q
+  pub bare-size : (e : SizeEvent) (p q : PassView) (others : List SizeEntry) → HasSize m file → Acts (SizeTurn (size_at m file) others (size_entry p.caller e)) p q → KeepsTickets p q → IsBare m file (SizeTurn (size_at m file) others (size_entry p.caller e)) p q
   bare-size e p q others sized did tickets = record {
     did = did;
     here = size-is m file sized;
@@ -215,7 +189,7 @@ module _ (m : MountView) (file : FileId) (by : Tag) where
         let caller : p1.caller ≡ p.caller = ap (λ (v : PassView). v.caller) t.pass_is in
         let size = (file_at m file).size in
         let out = held-after p1 p2 w.acts h w.did.acted w.also.0 is in
-        let left = wrote-before from a b iov later came (IsUnlocked m file p1.caller by from came) (LeavesClass h.file h.seat l.next p1.caller) p1 p2 q leave (record {
+        let left = wrote-before from a b iov later came (IsUnlocked m file p1.caller by from came) Leaves p1 p2 q leave (record {
           did = left-act out l;
           here = t.file_is;
           own = refl;
@@ -225,10 +199,11 @@ module _ (m : MountView) (file : FileId) (by : Tag) where
           last = ap (λ (v : PassView). v.last) l.pass_is;
           tickets = last;
         }) of w (
-          lock_acts-append w.acts (leave ∷ []) ∙ ap (λ x. x ++ leave ∷ []) w.also.0,
+          ap (λ f. w.acts ++ Leave f Exclusive h.seat l.next ∷ []) t.file_is,
+          lock_acts-append w.acts (leave ∷ []) ∙ ap (λ x. x ++ leave ∷ []) w.also.0 ∙ ap (λ f. Leave f Exclusive h.seat l.next ∷ []) t.file_is,
           subst (GrowsSize size p1.caller by from (came.at - from) came.fault) (sym (size_acts-append w.acts (leave ∷ []) ∙ append-nil (size_acts w.acts))) w.also.1,
         ) in
-        wrote-behind from a b iov later came (LeavesClass h.file h.seat l.next p1.caller) (IsLocked m file p.caller by from came) p p1 q took (record {
+        wrote-behind from a b iov later came Leaves (IsLocked m file p.caller by from came) p p1 q took (record {
           did = taken-act t;
           here = refl;
           own = refl;
@@ -238,12 +213,12 @@ module _ (m : MountView) (file : FileId) (by : Tag) where
           last = ap (λ (v : PassView). v.last) t.pass_is;
           tickets = first;
         }) left (
-          record { home = t.seat; taken = h.seat; held = h.seat; back = l.next; locks_are = ap (λ x. took ∷ x) left.also.0 ∙ ap (λ f. took ∷ Leave f Exclusive h.seat l.next ∷ []) t.file_is },
-          subst (λ n. GrowsSize size n by from (came.at - from) came.fault (size_acts left.acts)) caller left.also.1,
+          record { home = t.seat; held = h.seat; next = l.next; work = w.acts; acts_are = ap (λ x. took ∷ x) left.also.0; locks = ap (λ x. took ∷ x) left.also.1 },
+          subst (λ n. GrowsSize size n by from (came.at - from) came.fault (size_acts left.acts)) caller left.also.2,
         )
       where
-        LeavesClass : FileId → LockView → LockView → ℕ → List Act → Type 0
-        LeavesClass at held back caller acts = (lock_acts acts ≡ Leave at Exclusive held back ∷ []) × GrowsSize (file_at m file).size caller by from (came.at - from) came.fault (size_acts acts)
+        Leaves : List Act → Type 0
+        Leaves acts = (acts ≡ w.acts ++ Leave file Exclusive h.seat l.next ∷ []) × (lock_acts acts ≡ Leave file Exclusive h.seat l.next ∷ []) × GrowsSize (file_at m file).size p1.caller by from (came.at - from) came.fault (size_acts acts)
 
   -- without memory for room nothing is written
   pub refused-so : (from : ℕ) (lane : LaneView) (iov : IovView) (p q : PassView) (e : AllocError) → 0 < m.geometry.block_size → HasSize m file → MadeRoom m file p q (Err e) → IsPassOf m q → KeepsTickets p q
@@ -272,11 +247,6 @@ module _ (m : MountView) (file : FileId) (by : Tag) where
     shares = subst (λ (v : PassView). HasShares m file 2 v) (sym t.did.pass_is) goes.shares;
   }
 
--- the class is left
-pub free-after : (file : FileId) (p q : PassView) (h : HoldView) (m : MountView) → h.file ≡ file → IsHoldOf m p h → BringsBack (IsLeft Exclusive) p h q → HoldsNone q file
-free-after file p q h m same is l =
-    (l.next, ap (λ (v : PassView). slice_get v.locks file.0) l.pass_is ∙ ap (λ f. slice_get (slice_set p.locks f.0 (Some l.next)) file.0) same ∙ set-same p.locks file.0 None (Some l.next) (ap (λ f. slice_get p.locks f.0) (sym same) ∙ is.out))
-
 module _ (m : MountView) (file : FileId) (call off : ℕ) (a b : LaneView) (p q : PassView) (iov later : IovView) (answer : Answer) where
   -- a write that had room
   pub pwrites-so : (to : ℕ) (came : Progress) → 0 < m.geometry.block_size → iov.place ≡ 0 → to ≡ off + span_length (range_in (file_end m file) off (length iov.bytes)) → has_room (file_end m file) off (length iov.bytes) ≡ true
@@ -296,7 +266,7 @@ module _ (m : MountView) (file : FileId) (call off : ℕ) (a b : LaneView) (p q 
         callers = w.callers;
         run = w.run;
         lane = w.lane;
-        class = subst (λ t. TakesClass t file (Number call ∷ w.acts)) (sym room) (let c = w.also.0 in record { home = c.home; taken = c.taken; held = c.held; back = c.back; locks_are = c.locks_are });
+        class = subst (λ t. HoldsClass t file call (Number call ∷ w.acts)) (sym room) (let c = w.also.0 in record { home = c.home; held = c.held; next = c.next; work = c.work; acts_are = ap (λ l. Number call ∷ l) c.acts_are; locks = c.locks });
         sizes = subst (λ t. MeetsSize t (file_at m file).size p.caller (tag_of p call) off (came.at - off) came.fault (Number call ∷ w.acts)) (sym room) w.also.1;
         laid = subst (λ n. LieOn off n (take (came.at - off) iov.bytes) (laid_in size (own_entries w.acts))) (sym place)
             (subst (λ n. LieOn off came.at (take (came.at - off) (drop n iov.bytes)) (laid_in size (own_entries w.acts))) start w.laid);
@@ -310,6 +280,7 @@ module _ (m : MountView) (file : FileId) (call off : ℕ) (a b : LaneView) (p q 
             (lawful-write m.geometry.grain size (file_at m file).blocks off (came.at - off) segments came.fault
             (λ has. ends-short size off to came.at came.fault segments (own_entries w.acts) (range_in (file_end m file) off (length (concat segments))) (subst (λ l. span_length (range_in (file_end m file) off (length l)) ≡ to - off) (sym joined) (let k : span_length range ≡ to - off = omega (arith, to_is) in k)) low ends w.cause)));
         cause = w.cause;
+        stops = left-after size off to came.at came.fault low ends;
         bios = bios ∙ w.bios;
         moved = w.moved ∙ ap (λ n. moved_to (n + (came.at - off)) iov) start ∙ (let z : 0 + (came.at - off) ≡ came.at - off = omega arith in ap (λ n. moved_to n iov) z);
       }
@@ -332,7 +303,7 @@ module _ (m : MountView) (file : FileId) (call off : ℕ) (a b : LaneView) (p q 
         callers = All-nil (λ (e : Entry). e.caller ≡ p.caller);
         run = refl;
         lane = subst (λ l. ServedBy a l []) lane (served-none a);
-        class = subst (λ t. TakesClass t file (Number call ∷ [])) (sym room) (refl, refl);
+        class = subst (λ t. HoldsClass t file call (Number call ∷ [])) (sym room) (refl, refl);
         sizes = subst (λ t. MeetsSize t (file_at m file).size p.caller (tag_of p call) off 0 None (Number call ∷ [])) (sym room) refl;
         laid = subst (λ n. LieOn off n [] []) (let z : off ≡ off + 0 = omega arith in z) (lie-none off);
         stamps = sym (ap (λ r. stamps_over size (answered_in size range false r) (done_by (tag_of p call))) reply ∙ stamps-none size (file_end m file) off (length iov.bytes) (done_by (tag_of p call)) some room);
@@ -343,6 +314,7 @@ module _ (m : MountView) (file : FileId) (call off : ℕ) (a b : LaneView) (p q 
             (lawful-write m.geometry.grain size (file_at m file).blocks off 0 segments None
             (λ has. absurd (false≢true (sym room ∙ subst (λ l. has_room (file_end m file) off (length l) ≡ true) joined has)))));
         cause = tt;
+        stops = tt;
         bios = bios;
         moved = same ∙ ap (λ n. moved_to n iov) start;
       }

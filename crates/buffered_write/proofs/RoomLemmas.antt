@@ -1,30 +1,28 @@
 -- What the turns of a write at the size of its file tell.
-use Rattle.std.proofs.Common.{inl, inr, ◌≡◌, ℕ, ◌+◌, ◌-◌, ◌*◌, ◌<◌, ◌≤◌, ◌==◌, ◌∷◌, [], List, Bool, true, false, Some, None, Ok, Err, refl, sym, ap, ◌∙◌, subst, arith, if◌then◌else◌}
-use Rattle.std.specs.Prelude.{OnErr, OnOk, Option, Result, is_some, slice_get}
+use Rattle.std.proofs.Common.{◌≡◌, ℕ, ◌+◌, ◌-◌, ◌<◌, ◌≤◌, ◌==◌, ◌∷◌, [], List, true, false, Some, None, Ok, Err, refl, sym, ap, ◌∙◌, subst, arith, if◌then◌else◌}
+use Rattle.std.specs.Prelude.{Option, Result, is_some, slice_get}
 use Rattle.std.proofs.lemmas.Bool.{false≢true}
 use Rattle.std.proofs.lemmas.Bool.Decides.{nat_tests}
-use Rattle.std.proofs.lemmas.Option.{none-some, slice_get-get_or}
+use Rattle.std.proofs.lemmas.Option.{slice_get-get_or}
 use Rattle.std.specs.declared.alloc.AllocError.{AllocError}
 use Rattle.iob_base.specs.declared.stamp.FileId.{FileId}
 use Rattle.iob_base.specs.declared.stamp.Tag.{Tag}
-use Rattle.size_core.specs.ClaimsView.{ClaimsView, with_room, without_room}
+use Rattle.size_core.specs.ClaimsView.{ClaimsView, with_room}
 use Rattle.size_core.specs.SizeTurns.{Forgets, Grows, Readies}
-use Rattle.size_core.specs.SizesView.{SizesView, made_ready}
-use Rattle.size_core.specs.declared.entry.SizeEntry.{SizeEntry}
-use Rattle.size_core.specs.declared.entry.SizeEvent.{SizeEvent}
-use Rattle.size_core.specs.declared.entry.SizeEvent.TheVariants.{Forget, Grow, Ready}
+use Rattle.size_core.specs.SizesView.{SizesView}
+use Rattle.size_core.specs.declared.entry.SizeEvent.TheVariants.{Forget, Grow}
 use Rattle.size_core.specs.declared.turns.ForgetRoom.{ForgetRoom}
 use Rattle.size_core.specs.declared.turns.GrowSize.{GrowSize}
 use Rattle.size_core.specs.declared.turns.ReadyRoom.{ReadyRoom}
 use Rattle.turn_cell.specs.Views.{CellView}
-use Rattle.mount_parts.specs.MountView.{HasFile, IsLaidOut, MountView, file_at, no_file}
+use Rattle.mount_parts.specs.MountView.{IsLaidOut, MountView, file_at, no_file}
 use Rattle.mount_parts.proofs.Places.{set-same}
 use Rattle.mini_fs.specs.Acts.{Act, Acted, Acts}
 use Rattle.mini_fs.specs.Acts.Act.{Turn, SizeTurn, Busy, Open, Close, Take, Refused, Leave, Run, Note, Number}
-use Rattle.mini_fs.specs.CallActs.{IsActAt, size_acts}
+use Rattle.mini_fs.specs.CallActs.{size_acts}
 use Rattle.mini_fs.specs.Mappings.{file_end}
-use Rattle.mini_fs.specs.PassView.{IsPassOf, PassView, SizeSeat, size_claims}
-use Rattle.mini_fs.specs.SizeTurns.{HasSize, StandAtSize, TurnsAtSize, cell_in, size_at, with_size}
+use Rattle.mini_fs.specs.PassView.{PassView, SizeSeat, size_claims}
+use Rattle.mini_fs.specs.SizeTurns.{HasSize, TurnsAtSize, cell_in, size_at, with_size}
 use Rattle.mini_fs.proofs.ActLemmas.{turned_size-act}
 use Rattle.mini_fs.proofs.Layouts.{sized_file}
 use Rattle.buffered_write.specs.Grows.{HasRoom, MadeRoom, TurnedAtSize, grown, size_entry}

@@ -1,57 +1,39 @@
 -- What a write tells of its parts, of a mapping, and of its range.
-use Rattle.std.proofs.Common.{inl, inr, ◌≡◌, ℕ, zero, suc, ◌+◌, ◌-◌, ◌*◌, ◌<◌, ◌≤◌, ◌++◌, ◌∷◌, [], List, min, Bool, true, false, Some, None, length, drop, take, refl, sym, ap, ◌∙◌, subst, arith, append-nil}
-use Rattle.std.specs.Prelude.{◌⊎◌, ◌^◌, ◌/◌, ◌%◌, All, IfSome, IsTrue, Option, if◌then◌else◌, is_none, is_some}
+use Rattle.std.proofs.Common.{inl, inr, ◌≡◌, ℕ, zero, suc, ◌+◌, ◌-◌, ◌*◌, ◌<◌, ◌≤◌, List, min, Bool, true, false, Some, None, drop, refl, sym, ap, ◌∙◌, subst, arith}
+use Rattle.std.specs.Prelude.{◌⊎◌, ◌^◌, ◌%◌, IfSome, IsTrue, Option, if◌then◌else◌, is_none, is_some}
 use Rattle.std.proofs.lemmas.Bool.{cases_eq, false≢true}
-use Rattle.std.proofs.lemmas.List.Elements.{All-head, All-tail, All-weaker}
-use Rattle.std.proofs.Math.Nat.{add-mul, mul-mod_left}
 use Rattle.iob_base.specs.Geometry.{is_block_size, is_folio_blocks}
 use Rattle.iob_base.specs.declared.answer.Fault.{Fault}
 use Rattle.iob_base.specs.declared.stamp.FileId.{FileId}
 use Rattle.iob_base.specs.declared.stamp.Tag.{Tag}
-use Rattle.io_model.specs.Parts.{span}
-use Rattle.iov_iter.specs.IovView.{IovView, moved_to}
+use Rattle.iov_iter.specs.IovView.{IovView}
 use Rattle.fault_device.specs.LaneView.{LaneView, lane_of}
-use Rattle.iomap_core.specs.IterView.{IterView, advanced, began, finished, whole_range}
-use Rattle.iomap_core.specs.Mappings.{IsBegun, IsSameMapping, found_stale}
+use Rattle.iomap_core.specs.IterView.{IterView, whole_range}
 use Rattle.iomap_core.specs.declared.mapping.Iomap.{Iomap}
-use Rattle.turn_cell.specs.Stakes.{total}
 use Rattle.range_core.specs.ByteRuns.{HasNext}
-use Rattle.range_core.specs.EntryCounts.{lendings}
-use Rattle.range_core.specs.EntryStamps.{stamps_in}
-use Rattle.range_core.specs.Stamps.{done_by}
 use Rattle.range_core.specs.Stores.{past}
-use Rattle.range_core.specs.declared.entry.Entry.{Entry}
 use Rattle.range_core.specs.declared.entry.Event.{Event}
 use Rattle.range_core.specs.declared.entry.Event.TheVariants as event
-use Rattle.range_core.specs.declared.entry.Outcome.{Outcome}
 use Rattle.range_core.specs.declared.sample.Sample.{Sample}
-use Rattle.mount_parts.specs.MountView.{HasFile, MountView, file_at, stripe_at}
+use Rattle.mount_parts.specs.MountView.{MountView, file_at}
 use Rattle.mini_fs.specs.Acts.{Act, own_entries}
 use Rattle.mini_fs.specs.CallActs.{loans_in}
-use Rattle.mini_fs.specs.Mappings.{IsGivenAt, IsOpen, Tells, file_end, mapping_in, mapping_of, sample_in}
-use Rattle.mini_fs.specs.PassView.{IsPassOf, PassView}
-use Rattle.mini_fs.specs.Turns.{block_at}
-use Rattle.mini_fs.specs.declared.begun.Begun.{Begun}
-use Rattle.mini_fs.proofs.CallLemmas.{loans-append, own_entries-append}
+use Rattle.mini_fs.specs.Mappings.{file_end}
+use Rattle.mini_fs.specs.PassView.{PassView}
 use Rattle.call_parts.specs.Causes.{IsCaused}
-use Rattle.buffered_write.specs.Lays.{CanLay, EndsAt, GoesOn, GoesTo, HasLaid, IsLeftAt, LaysNothing, LieOn, Meet, laid_by, laid_in}
+use Rattle.buffered_write.specs.Lays.{CanLay, EndsAt, GoesOn, GoesTo, IsLeftAt, LaysNothing, Meet}
 use Rattle.call_parts.specs.Maps.{EndsMapping, Maps, MapsNone, maps}
-use Rattle.call_parts.specs.Parts.{part_end, stamps_over}
-use Rattle.buffered_write.specs.Pwrites.{CameOn, HasMapped, IsToWrite, Writes, followed, is_whole, marked, may_write, progress}
-use Rattle.call_parts.specs.Steps.{IsQuiet, Steps, is_quiet}
+use Rattle.call_parts.specs.Parts.{part_end}
+use Rattle.buffered_write.specs.Pwrites.{CameOn, HasMapped, IsToWrite, Writes, followed, is_whole, may_write, progress}
+use Rattle.call_parts.specs.Steps.{Steps}
 use Rattle.call_parts.specs.declared.progress.Progress.{Progress}
-use Rattle.buffered_write.specs.declared.store_part.Written.{Written}
-use Rattle.buffered_write.proofs.LayLemmas.{laid-append, nothing-then}
-use Rattle.call_parts.proofs.NumberLemmas.{stamps-append}
+use Rattle.buffered_write.proofs.LayLemmas.{laid-quiet, nothing-may}
+use Rattle.buffered_write.proofs.MappedLemmas.{begun-goes, begun-of, map-step}
 use Rattle.call_parts.proofs.PartLemmas.{IsPart, part-is}
 use Rattle.call_parts.proofs.ReadyLemmas.{some-blocks, some-bytes}
-use Rattle.call_parts.proofs.StepLemmas.{caused-left, quiet-stamps, steps-may, steps-then}
 use Rattle.buffered_write.proofs.StoredLemmas.{can-lay-after, goes-on, lay-some, none-writes, nothing-writes, writes-then}
 
--- fewer bytes of an iov, and those past some
-pub next-fewer : (v : IovView) (n k : ℕ) → HasNext v n → k ≤ n → HasNext v k
-next-fewer v n k room le = (let w = room.within in record { within = omega (arith, w, le); home = λ b low below. room.home b low (omega (arith, below, le)) })
-
+-- the bytes of an iov past some
 pub next-past : (v : IovView) (n k : ℕ) → HasNext v n → k ≤ n → HasNext (past v k) (n - k)
 next-past v n k room le = (let w = room.within in record { within = omega (arith, w, le); home = λ b low below. room.home b (omega (arith, low)) (omega (arith, below, le)) })
 
@@ -110,12 +92,6 @@ module _ (m : MountView) (sized : IsTrue (is_block_size m.geometry.block_size)) 
   pub part-of : (to at next : ℕ) → next ≡ part_end m.geometry to at → at < to → IsPart m.geometry.block_size m.geometry.folio_blocks to at next
   part-of to at next is less = subst (IsPart m.geometry.block_size m.geometry.folio_blocks to at) (sym is) (part-is m.geometry.block_size m.geometry.folio_blocks to at (some-bytes m.geometry.block_size sized) (some-blocks m.geometry.folio_blocks foliod) less)
 
-pub lay-part : (m : MountView) (file : FileId) (seen : Sample) (from to at next : ℕ) (p : PassView) → from ≤ at → at < next → next ≤ to → CanLay m file seen from to p → CanLay m file seen at next p
-lay-part m file seen from to at next p low some high can =
-    let l = can.low in
-    let h = can.high in
-    record { some = some; low = omega (arith, l, low); high = omega (arith, h, high); lies = can.lies; space = can.space; given = can.given }
-
 -- what a loop over the parts of a mapping keeps
 pub record HasWritten (m : MountView) (file : FileId) (by : Tag) (seen : Sample) (from to : ℕ) (a b : LaneView) (p q : PassView) (iov later : IovView) (came : Progress) : Type 0 where
   pub goes : GoesOn m file by q
@@ -162,134 +138,25 @@ module _ (m : MountView) (file : FileId) (by : Tag) (seen : Sample) (from to : �
         writes = writes-then m file by from a b c p q r iov later last came next (lay-some m file seen from to q sofar.can) sofar.whole (meet-on size from came.at to next.at less sofar.meet) sofar.writes w;
       }
 
--- an entry that is quiet lays nothing
-quiet-lay : (size : ℕ) (e : Event) (o : Outcome) → IsTrue (is_quiet e) → laid_by size e o ≡ []
-quiet-lay size (event.Store by seen from to bytes) o is = absurd (false≢true is)
-quiet-lay size (event.StoreZeros by seen from to) o is = absurd (false≢true is)
-quiet-lay size (event.Wipe by block blocks) o is = absurd (false≢true is)
-quiet-lay size (event.DaxZero by seen from to) o is = absurd (false≢true is)
-quiet-lay size e o is = refl
-
-pub quiet-lays : (size : ℕ) (entries : List Entry) → All IsQuiet entries → laid_in size entries ≡ []
-quiet-lays size [] quiet = refl
-quiet-lays size (e ∷ entries) quiet = ap (λ l. l ++ laid_in size entries) (quiet-lay size e.event e.outcome (All-head IsQuiet e entries quiet)) ∙ quiet-lays size entries (All-tail IsQuiet e entries quiet)
-
-maps-quiet : (writes : Bool) (e : Event) → IsTrue (maps writes e) → IsTrue (is_quiet e)
-maps-quiet writes (event.Sample block most) is = refl
-maps-quiet writes (event.Reserve seen blocks) is = refl
-maps-quiet writes (event.Unreserve block blocks) is = refl
-maps-quiet writes e is = absurd (false≢true is)
-
 maps-may : (writes : Bool) (by : Tag) (e : Event) → IsTrue (maps writes e) → IsTrue (may_write by e)
 maps-may writes by (event.Sample block most) is = refl
 maps-may writes by (event.Reserve seen blocks) is = refl
 maps-may writes by (event.Unreserve block blocks) is = refl
 maps-may writes by e is = absurd (false≢true is)
 
--- the mapping with its stale flag as was found
-pub marked-same : (was : Option Iomap) (iomap : Iomap) (stale : Bool) → was ≡ Some iomap → iomap.flags.stale ≡ false → IsSameMapping was (marked iomap stale)
-marked-same was iomap true is fresh = subst (λ o. IsSameMapping o (found_stale iomap)) (sym is) (inr refl)
-marked-same was iomap false is fresh = subst (λ o. IsSameMapping o (marked iomap false)) (sym is) (inl (ap (marked iomap) (sym fresh)))
-
 module _ (m : MountView) (file : FileId) (by : Tag) where
   -- a step that maps lays nothing
   pub map-nothing : (writes : Bool) (lane : LaneView) (p q : PassView) (acts : List Act) (fault : Option Fault) → Steps m file (maps writes) lane lane p q acts → loans_in acts ≡ 0 → IfSome fault (IsCaused (own_entries acts)) → LaysNothing m (may_write by) file lane lane p q 0 fault
-  map-nothing writes lane p q acts fault steps none cause =
-      let quiet : All IsQuiet (own_entries acts) = All-weaker (λ (e : Entry). IsTrue (maps writes e.event)) IsQuiet (λ e is. maps-quiet writes e.event is) (own_entries acts) steps.did.made in
-      record {
-        acts = acts;
-        steps = steps-may m file (maps writes) (may_write by) lane lane p q acts (maps-may writes by) steps;
-        laid = quiet-lays m.geometry.block_size (own_entries acts) quiet;
-        stamps = quiet-stamps m.geometry.block_size (own_entries acts) quiet;
-        cause = cause;
-        sent = omega (arith, none);
-      }
+  map-nothing writes lane p q acts fault steps none cause = nothing-may m file (maps writes) (may_write by) (maps-may writes by) lane lane p q 0 fault (map-step m file writes lane p q acts fault steps none cause)
 
   -- a step that lays nothing behind a write leaves what it laid, and its fault
   pub writes-quiet : (from : ℕ) (a b c : LaneView) (p q r : PassView) (iov later : IovView) (came : Progress) → Writes m file by from a b p q iov later came → LaysNothing m (may_write by) file b c q r 0 None → Writes m file by from a c p r iov later came
-  writes-quiet from a b c p q r iov later came w n =
-      let size = m.geometry.block_size in
-      let one = w.laid in
-      let own = own_entries-append one.acts n.acts in
-      let sent = n.sent in
-      let none : loans_in n.acts ≡ 0 = omega (arith, sent) in
-      record {
-        laid = record {
-          acts = one.acts ++ n.acts;
-          steps = steps-then m file (may_write by) a b c p q r one.acts n.acts one.steps n.steps;
-          begins = one.begins;
-          laid = subst (λ l. LieOn from came.at (take (came.at - from) (drop iov.place iov.bytes)) l)
-              (sym (ap (laid_in size) own ∙ laid-append size (own_entries one.acts) (own_entries n.acts) ∙ ap (λ l. laid_in size (own_entries one.acts) ++ l) n.laid ∙ append-nil (laid_in size (own_entries one.acts)))) one.laid;
-          stamps = ap (stamps_in size) own ∙ stamps-append size (own_entries one.acts) (own_entries n.acts) ∙ ap (λ l. stamps_in size (own_entries one.acts) ++ l) n.stamps ∙ append-nil (stamps_in size (own_entries one.acts)) ∙ one.stamps;
-          cause = subst (λ l. IfSome came.fault (IsCaused l)) (sym own) (caused-first (own_entries one.acts) (own_entries n.acts) came.fault one.cause);
-          bios = one.bios ∙ ap (λ k. min k (2 ^ 64 - 1)) (let z : loans_in one.acts ≡ loans_in (one.acts ++ n.acts) = (let h = loans-append one.acts n.acts in omega (arith, h, none)) in z);
-        };
-        moved = w.moved;
-      }
-    where
-      caused-first : (before after : List Entry) (fault : Option Fault) → IfSome fault (IsCaused before) → IfSome fault (IsCaused (before ++ after))
-      caused-first before after None cause = tt
-      caused-first before after (Some fault) cause = caused-left before after fault cause
-
-  -- the bytes of a mapping that are to be written may be laid
-  pub mapped-can : (pos left end : ℕ) (p : PassView) (iomap : Iomap) (seen : Sample) → HasMapped m file pos p iomap → sample_in p.begun ≡ Some seen → 0 < left → end ≡ min (iomap.offset + iomap.length) (pos + left) → CanLay m file seen pos end p
-  mapped-can pos left end p iomap seen mapped is some end_is =
-      let size = m.geometry.block_size in
-      let same : mapped.begun.sample ≡ seen = some-same (sym (ap sample_in mapped.noted) ∙ is) in
-      let begun : mapped.begun.iomap ≡ mapping_of m file mapped.tells.new mapped.begun.sample = ap (λ (b : Begun). b.iomap) mapped.tells.is in
-      let offset : iomap.offset ≡ mapped.begun.sample.extent.block * size = ap (λ (i : Iomap). i.offset) (sym mapped.iomap_is ∙ begun) in
-      let long : iomap.length ≡ mapped.begun.sample.extent.length * size = ap (λ (i : Iomap). i.length) (sym mapped.iomap_is ∙ begun) in
-      let begins = mapped.begins.from in
-      let reaches = mapped.begins.to in
-      let all = add-mul mapped.begun.sample.extent.block mapped.begun.sample.extent.length size in
-      subst (λ s. CanLay m file s pos end p) same (record {
-        some = omega (arith, reaches, some, end_is);
-        low = omega (arith, offset, begins);
-        high = omega (arith, offset, long, all, end_is);
-        lies = mapped.tells.lies;
-        space = mapped.space;
-        given = subst (λ b. IsGivenAt p (stripe_at m file b) mapped.begun.sample) (sym mapped.tells.starts) mapped.given;
-      })
-    where
-      some-same : {x y : Sample} → Some x ≡ Some y → x ≡ y
-      some-same e = cc
+  writes-quiet from a b c p q r iov later came w n = record { laid = laid-quiet m (may_write by) file by from (drop iov.place iov.bytes) a b c p q r came w.laid n; moved = w.moved }
 
   -- where work on a mapping ends, its range may be cut
   pub mapped-goes : (pos left end : ℕ) (p : PassView) (iomap : Iomap) (came : Progress) (stale : Bool) → HasMapped m file pos p iomap → end ≡ min (iomap.offset + iomap.length) (pos + left) → EndsAt m.geometry.block_size pos end came.at came.fault stale
       → GoesTo m.geometry.block_size pos (pos + left) came.at came.fault
-  mapped-goes pos left end p iomap came stale mapped end_is ends = fits came.fault stale ends
-    where
-      size : ℕ
-      size = m.geometry.block_size
-
-      wider : IsLeftAt size pos end came.at → IsLeftAt size pos (pos + left) came.at
-      wider l = ((let h = l.0 in omega (arith, h, end_is)), l.1)
-
-      block-end : iomap.offset + iomap.length ≡ (mapped.begun.sample.extent.block + mapped.begun.sample.extent.length) * size
-      block-end =
-          let begun : mapped.begun.iomap ≡ mapping_of m file mapped.tells.new mapped.begun.sample = ap (λ (b : Begun). b.iomap) mapped.tells.is in
-          let offset : iomap.offset ≡ mapped.begun.sample.extent.block * size = ap (λ (i : Iomap). i.offset) (sym mapped.iomap_is ∙ begun) in
-          let long : iomap.length ≡ mapped.begun.sample.extent.length * size = ap (λ (i : Iomap). i.length) (sym mapped.iomap_is ∙ begun) in
-          let all = add-mul mapped.begun.sample.extent.block mapped.begun.sample.extent.length size in
-          omega (arith, offset, long, all)
-
-      fits : (fault : Option Fault) (s : Bool) → EndsAt size pos end came.at fault s → GoesTo size pos (pos + left) came.at fault
-      fits (Some fault) s e = wider e.0
-      fits None true e = elim e.1 [ inl f ↦ inl f | inr f ↦ inr (inr f) ]
-      fits None false e = elim (cases_eq end (pos + left)) [
-        | inl f ↦ inr (inl (e ∙ f))
-        | inr n ↦
-            let at : came.at ≡ (mapped.begun.sample.extent.block + mapped.begun.sample.extent.length) * size = (let b = block-end in omega (arith, e, end_is, n, b)) in
-            inr (inr (ap (λ k. k % size) at ∙ mul-mod_left (mapped.begun.sample.extent.block + mapped.begun.sample.extent.length) size))
-      ]
-
-  -- and is still open after it
-  pub marked-open : (pos : ℕ) (p q : PassView) (iomap : Iomap) (stale : Bool) → HasMapped m file pos p iomap → q.begun ≡ p.begun → IsPassOf m q → IsOpen m q (marked iomap stale)
-  marked-open pos p q iomap stale mapped same of = record {
-    of = of;
-    same = marked-same (mapping_in q.begun) iomap stale (ap mapping_in same ∙ ap mapping_in mapped.noted ∙ ap Some mapped.iomap_is) mapped.begins.fresh;
-    tells = subst (λ o. IfSome o (Tells m)) (sym same) mapped.unended.tells;
-  }
+  mapped-goes pos left end p iomap came stale mapped end_is ends = begun-goes m file pos left end p iomap came stale (begun-of m file pos p iomap mapped) end_is ends
 
 -- what a loop over the mappings of a range keeps
 pub record HasReached (m : MountView) (file : FileId) (by : Tag) (from to : ℕ) (a b : LaneView) (p q : PassView) (iov later : IovView) (came : Progress) (it : IterView) : Type 0 where
@@ -380,19 +247,6 @@ module _ (m : MountView) (file : FileId) (by : Tag) where
       subst (Writes m file by from a c p r iov last) (ap (λ k. progress came.at k came.fault) n)
       (writes-then m file by from a b c p q r iov later last (progress from 0 None) came some refl (inl refl) (nothing-writes m file by from a b p q iov later 0 None some same step) w)
 
-  -- a mapping that was begun to write is one that the pass has, after a step that laid nothing
-  pub maps-mapped : (pos : ℕ) (p q : PassView) (iomap : Iomap) → IsBegun file pos iomap → Maps m file pos true p q iomap → HasMapped m file pos q iomap
-  maps-mapped pos p q iomap begins maps = record {
-    begun = maps.begun;
-    noted = maps.noted;
-    iomap_is = maps.iomap_is;
-    unended = maps.unended;
-    tells = maps.tells;
-    given = maps.given;
-    space = maps.space refl;
-    begins = begins;
-  }
-
   pub maps-step : (pos : ℕ) (p q : PassView) (iomap : Iomap) (lane : LaneView) → Maps m file pos true p q iomap → LaysNothing m (may_write by) file lane lane p q 0 None
   maps-step pos p q iomap lane maps = map-nothing m file by true lane p q maps.acts None (maps.steps lane) maps.loans tt
 
@@ -412,30 +266,6 @@ module _ (m : MountView) (file : FileId) (by : Tag) where
 
   pub ended-goes : (new : Bool) (p q : PassView) → EndsMapping m file new p q → GoesOn m file by p → GoesOn m file by q
   ended-goes new p q ends goes = (let lane = lane_of 0 0 None in goes-on m file by (maps new) lane lane p q ends.acts (ends.steps lane) goes)
-
--- a range with a mapping begun has come no further
-pub came-from : (it mid later : IterView) (iomap : Iomap) (at : ℕ) → mid ≡ began it iomap → CameOn mid later at → CameOn it later at
-came-from it mid later iomap at is came = (let on : CameOn (began it iomap) later at = subst (λ v. CameOn v later at) is came in record { file = on.file; pos = on.pos; left = on.left; ended = on.ended })
-
-pub came-none : (it later : IterView) → later ≡ it → it.unfinished ≡ None → CameOn it later it.pos
-came-none it later is ended = record { file = ap (λ (v : IterView). v.file) is; pos = ap (λ (v : IterView). v.pos) is; left = ap (λ (v : IterView). it.pos + v.left) is; ended = ap (λ (v : IterView). v.unfinished) is ∙ ended }
-
--- and after the bytes of the mapping that were done, with it ended
-pub came-done : (it mid later : IterView) (at : ℕ) → it.pos ≤ at → at ≤ it.pos + it.left → mid ≡ advanced it (at - it.pos) → later ≡ finished mid → CameOn it later at
-came-done it mid later at low high mid_is is =
-    let done : later ≡ finished (advanced it (at - it.pos)) = is ∙ ap finished mid_is in
-    record {
-      file = ap (λ (v : IterView). v.file) done;
-      pos = ap (λ (v : IterView). v.pos) done ∙ (let z : it.pos + (at - it.pos) ≡ at = omega (arith, low) in z);
-      left = ap (λ (v : IterView). at + v.left) done ∙ (let z : at + (it.left - (at - it.pos)) ≡ it.pos + it.left = omega (arith, low, high) in z);
-      ended = ap (λ (v : IterView). v.unfinished) done;
-    }
-
-pub range-mid : (m : MountView) (it mid : IterView) (iomap : Iomap) (iov : IovView) → mid ≡ began it iomap → IsToWrite m it iov → IsToWrite m mid iov
-range-mid m it mid iomap iov is range = subst (λ v. IsToWrite m v iov) (sym is) (record { within = range.within; fits = range.fits; room = range.room })
-
-pub goes-from : (size at : ℕ) (fault : Option Fault) (it mid : IterView) (iomap : Iomap) → mid ≡ began it iomap → GoesTo size mid.pos (mid.pos + mid.left) at fault → GoesTo size it.pos (it.pos + it.left) at fault
-goes-from size at fault it mid iomap is goes = subst (λ (v : IterView). GoesTo size v.pos (v.pos + v.left) at fault) is goes
 
 -- a range of a file with bytes left begins before its end
 pub begins-within : (m : MountView) (it : IterView) (iov : IovView) → IsToWrite m it iov → 0 < it.left → it.pos < file_end m it.file

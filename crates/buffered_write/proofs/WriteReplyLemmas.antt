@@ -1,17 +1,16 @@
 -- What a write replies is lawful, and tells the blocks that it stamped.
-use Rattle.std.proofs.Common.{◌≡◌, ℕ, ◌+◌, ◌-◌, ◌*◌, ◌<◌, ◌≤◌, ◌==◌, [], List, min, Bool, true, false, Some, None, length, refl, sym, ap, ◌∙◌, subst, arith, if◌then◌else◌}
-use Rattle.std.specs.Prelude.{◌&&◌, ◌||◌, IfSome, IsTrue, Option, nat_le, not}
+use Rattle.std.proofs.Common.{◌≡◌, ℕ, ◌+◌, ◌-◌, ◌*◌, ◌<◌, ◌≤◌, ◌==◌, [], List, min, Bool, true, false, Some, None, length, refl, sym, ap, ◌∙◌, arith, if◌then◌else◌}
+use Rattle.std.specs.Prelude.{◌&&◌, IfSome, IsTrue, Option, nat_le, not}
 use Rattle.std.specs.List.{concat}
-use Rattle.std.proofs.lemmas.Bool.{eq-eqb, false≢true}
+use Rattle.std.proofs.lemmas.Bool.{false≢true}
 use Rattle.std.proofs.lemmas.Bool.Decides.{nat_tests}
 use Rattle.iob_base.specs.declared.answer.Fault.{Fault}
 use Rattle.iob_base.specs.declared.answer.Fault.TheVariants as fault
 use Rattle.iob_base.specs.declared.answer.Reply.TheVariants as reply
 use Rattle.iob_base.specs.declared.answer.Stop.TheVariants.{Whole}
-use Rattle.iob_base.specs.declared.answer.Stop.TheVariants.{Fault as Short}
 use Rattle.iob_base.specs.declared.stamp.Stamp.{Stamp}
 use Rattle.io_model.specs.Answered.{answered_in}
-use Rattle.io_model.specs.Lawful.{is_data_reply, is_lawful_reply, is_nothing_done, is_too_far_at, may_meet}
+use Rattle.io_model.specs.Lawful.{is_lawful_reply, may_meet}
 use Rattle.io_model.specs.Parts.{Span, range_in, span, span_length}
 use Rattle.io_model.specs.declared.script.Verb.TheVariants.{Pwrite}
 use Rattle.range_core.specs.declared.entry.Entry.{Entry}
@@ -19,60 +18,35 @@ use Rattle.call_parts.specs.Causes.{IsCaused}
 use Rattle.buffered_write.specs.Lays.{EndsAt}
 use Rattle.call_parts.specs.Parts.{stamps_over}
 use Rattle.buffered_write.specs.Pwrites.{has_room, write_reply}
-use Rattle.call_parts.specs.Replies.{end_stop, read_reply, short_reply}
+use Rattle.call_parts.specs.Replies.{read_reply}
 use Rattle.call_parts.proofs.NumberLemmas.{answered-so}
 use Rattle.call_parts.proofs.PartLemmas.{over-none}
-use Rattle.call_parts.proofs.ReplyLemmas.{both-true, end-so}
+use Rattle.buffered_write.proofs.DataReplyLemmas.{MayEnd, ends-before, roomed-reply}
 
-module _ (size : ℕ) (range : Span) (off : ℕ) (segments : List (List ℕ)) where
+module _ (off : ℕ) (segments : List (List ℕ)) (entries : List Entry) where
   -- a fault that ended a write is one that a write may meet
-  pub may-write : (entries : List Entry) (f : Fault) → IsCaused entries f → may_meet true (Pwrite off segments) f ≡ true
-  may-write entries (fault.Eio lane before after) is = refl
-  may-write entries (fault.Worn cookie) is = refl
-  may-write entries (fault.NoSpace wanted found) is = refl
-  may-write entries fault.NoMemory is = refl
-  may-write entries (fault.SyncEio seen count) is = absurd is
-  may-write entries (fault.Again why) is = absurd is
-  may-write entries (fault.NotAligned alignment) is = absurd is
-  may-write entries (fault.TooFar offset end) is = absurd is
+  pub may-write : (f : Fault) → IsCaused entries f → may_meet true (Pwrite off segments) f ≡ true
+  may-write (fault.Eio lane before after) is = refl
+  may-write (fault.Worn cookie) is = refl
+  may-write (fault.NoSpace wanted found) is = refl
+  may-write fault.NoMemory is = refl
+  may-write (fault.SyncEio seen count) is = absurd is
+  may-write (fault.Again why) is = absurd is
+  may-write (fault.NotAligned alignment) is = absurd is
+  may-write (fault.TooFar offset end) is = absurd is
 
-  -- a fault stands only where bytes are left, and is one that a write may meet
-  abbrev pub MayEnd : ℕ → Option Fault → Type 0
-  MayEnd count None = count ≡ span_length range
-  MayEnd count (Some f) = (count < span_length range) × (may_meet true (Pwrite off segments) f ≡ true)
-
-  short-so : (asked count : ℕ) (f : Fault) → count < span_length range → may_meet true (Pwrite off segments) f ≡ true → is_data_reply size range true (Pwrite off segments) asked (short_reply count f) ≡ true
-  short-so asked count f less may = at (count == 0) refl
-    where
-      at : (b : Bool) → (count == 0) ≡ b → is_data_reply size range true (Pwrite off segments) asked (if b then reply.Err f 0 else reply.Ok count (Short f)) ≡ true
-      at true e = ap (λ b. b && true) may
-      at false e = grind (arith, nat_tests)
-
-  data-so : (asked count : ℕ) (f : Option Fault) → span_length range ≤ asked → MayEnd count f → is_data_reply size range true (Pwrite off segments) asked (read_reply asked (span_length range) count f) ≡ true
-  data-so asked count None some may =
-      subst (λ n. is_data_reply size range true (Pwrite off segments) asked (reply.Ok n (end_stop asked (span_length range))) ≡ true) (sym may)
-      (both-true _ _ _ (eq-eqb (span_length range) (span_length range) refl) (end-so asked (span_length range) some))
-  data-so asked count (Some f) some may = short-so asked count f may.0 may.1
+  may-end : (f : Option Fault) → IfSome f (IsCaused entries) → IfSome f (λ x. may_meet true (Pwrite off segments) x ≡ true)
+  may-end None cause = tt
+  may-end (Some f) cause = may-write f cause
 
 -- a fault stands only where the write had room
-abbrev pub MayEndIn : ℕ → ℕ → ℕ → List (List ℕ) → ℕ → Option Fault → Type 0
-MayEndIn size end off segments count f = has_room end off (length (concat segments)) ≡ true → MayEnd size (range_in end off (length (concat segments))) off segments count f
+abbrev pub MayEndIn : ℕ → ℕ → List (List ℕ) → ℕ → Option Fault → Type 0
+MayEndIn end off segments count f = has_room end off (length (concat segments)) ≡ true → MayEnd (Pwrite off segments) (range_in end off (length (concat segments))) count f
 
 -- the reply of a write is lawful
-pub lawful-write : (grain size blocks off count : ℕ) (segments : List (List ℕ)) (f : Option Fault) → MayEndIn size (blocks * size) off segments count f
+pub lawful-write : (grain size blocks off count : ℕ) (segments : List (List ℕ)) (f : Option Fault) → MayEndIn (blocks * size) off segments count f
     → IsTrue (is_lawful_reply grain size blocks (range_in (blocks * size) off (length (concat segments))) true (Pwrite off segments) (write_reply (blocks * size) off (length (concat segments)) count f))
-lawful-write grain size blocks off count segments f may = at (length (concat segments) == 0) (nat_le (blocks * size) off) refl refl
-  where
-    IsSo : Bool → Bool → Type 0
-    IsSo none past =
-        (if none then is_nothing_done (if none then reply.Ok 0 Whole else (if past then reply.Err (fault.TooFar off (blocks * size)) 0 else read_reply (length (concat segments)) (span_length (range_in (blocks * size) off (length (concat segments)))) count f))
-        else (if past || false then is_too_far_at off (blocks * size) (if none then reply.Ok 0 Whole else (if past then reply.Err (fault.TooFar off (blocks * size)) 0 else read_reply (length (concat segments)) (span_length (range_in (blocks * size) off (length (concat segments)))) count f))
-        else is_data_reply size (range_in (blocks * size) off (length (concat segments))) true (Pwrite off segments) (length (concat segments)) (if none then reply.Ok 0 Whole else (if past then reply.Err (fault.TooFar off (blocks * size)) 0 else read_reply (length (concat segments)) (span_length (range_in (blocks * size) off (length (concat segments)))) count f)))) ≡ true
-
-    at : (none past : Bool) → (length (concat segments) == 0) ≡ none → nat_le (blocks * size) off ≡ past → IsSo none past
-    at true past e g = refl
-    at false true e g = ap (λ b. (b && (blocks * size == blocks * size)) && true) (eq-eqb off off refl) ∙ ap (λ b. b && true) (eq-eqb (blocks * size) (blocks * size) refl)
-    at false false e g = data-so size (range_in (blocks * size) off (length (concat segments))) off segments (length (concat segments)) count f (omega arith) (may (ap (λ b. not b && not (nat_le (blocks * size) off)) e ∙ ap not g))
+lawful-write grain size blocks off count segments f may = roomed-reply (Pwrite off segments) refl size (blocks * size) off (length (concat segments)) count f may
 
 -- the reply of a write that had room
 pub reply-room : (end off asked count : ℕ) (f : Option Fault) → has_room end off asked ≡ true → write_reply end off asked count f ≡ read_reply asked (span_length (range_in end off asked)) count f
@@ -98,12 +72,8 @@ stamps-none size end off asked stamp some room = at (asked == 0) (nat_le end off
     at false false e = absurd (false≢true (sym e))
 
 -- a fault that a write met stands before its end
-pub ends-short : (size from to at : ℕ) (f : Option Fault) (segments : List (List ℕ)) (entries : List Entry) (range : Span) → span_length range ≡ to - from → from ≤ at → EndsAt size from to at f false → IfSome f (IsCaused entries) → MayEnd size range from segments (at - from) f
-ends-short size from to at None segments entries range long low ends cause = ap (λ n. n - from) ends ∙ sym long
-ends-short size from to at (Some f) segments entries range long low ends cause = (
-  (let less = ends.0.0 in omega (arith, less, low, long)),
-  may-write size range from segments entries f cause,
-)
+pub ends-short : (size from to at : ℕ) (f : Option Fault) (segments : List (List ℕ)) (entries : List Entry) (range : Span) → span_length range ≡ to - from → from ≤ at → EndsAt size from to at f false → IfSome f (IsCaused entries) → MayEnd (Pwrite from segments) range (at - from) f
+ends-short size from to at f segments entries range long low ends cause = ends-before (Pwrite from segments) range size from to at f long low ends (may-end from segments entries f cause)
 
 -- a write without bytes, and one past the end
 pub room-empty : (end off asked : ℕ) → asked ≡ 0 → has_room end off asked ≡ false

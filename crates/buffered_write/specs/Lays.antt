@@ -1,11 +1,11 @@
 -- What a call lays over the bytes of a file through its page cache.
 use Rattle.std.specs.Prelude.{◌≡◌, ◌⊎◌, ℕ, ◌+◌, ◌-◌, ◌*◌, ◌^◌, ◌%◌, ◌<◌, ◌≤◌, min, Bool, true, false, Option, Some, None, IfSome, List, [], ◌∷◌, ◌++◌, length, replicate, take}
 use Rattle.iob_base.specs.declared.answer.Fault.{Fault}
+use Rattle.iob_base.specs.declared.answer.Fault.TheVariants.{Eio, NoMemory}
 use Rattle.iob_base.specs.declared.stamp.FileId.{FileId}
 use Rattle.iob_base.specs.declared.stamp.Mode.TheVariants.{Cached}
 use Rattle.iob_base.specs.declared.stamp.Tag.{Tag}
 use Rattle.io_model.specs.Parts.{span}
-use Rattle.iov_iter.specs.IovView.{IovView, moved_to}
 use Rattle.fault_device.specs.LaneView.{LaneView}
 use Rattle.range_core.specs.EntryStamps.{stamps_in}
 use Rattle.range_core.specs.Kinds.{is_hole}
@@ -20,7 +20,7 @@ use Rattle.mount_parts.specs.MountView.{HasFile, MountView, file_at, stripe_at}
 use Rattle.mini_fs.specs.Acts.{Act, own_entries}
 use Rattle.mini_fs.specs.CallActs.{loans_in}
 use Rattle.mini_fs.specs.Calls.{HasShares}
-use Rattle.mini_fs.specs.Mappings.{IsGivenAt, LiesInStripe, file_end}
+use Rattle.mini_fs.specs.Mappings.{IsGivenAt, LiesInStripe}
 use Rattle.mini_fs.specs.PassView.{IsPassOf, PassView}
 use Rattle.call_parts.specs.Causes.{IsCaused}
 use Rattle.call_parts.specs.Parts.{stamps_over}
@@ -82,6 +82,10 @@ Meet size from at to = (at ≡ from) ⊎ (at ≡ to) ⊎ (at % size ≡ 0)
 abbrev pub IsLeftAt : ℕ → ℕ → ℕ → ℕ → Type 0
 IsLeftAt size from to at = (at < to) × ((at ≡ from) ⊎ (at % size ≡ 0))
 
+-- a call that did so many bytes of a range did none, or came to where a block begins
+abbrev pub IsLeftAfter : ℕ → ℕ → ℕ → Type 0
+IsLeftAfter size from count = (count ≡ 0) ⊎ ((from + count) % size ≡ 0)
+
 -- where work on a mapping ends that may be found stale: with its range, or before it for a fault or since the mapping is stale
 abbrev pub EndsAt : ℕ → ℕ → ℕ → ℕ → Option Fault → Bool → Type 0
 EndsAt size from to at (Some fault) stale = IsLeftAt size from to at × (stale ≡ false)
@@ -101,6 +105,13 @@ pub record GoesOn (m : MountView) (file : FileId) (by : Tag) (p : PassView) : Ty
   pub cached : (file_at m file).mode ≡ Cached
   pub shares : HasShares m file 2 p
 
+-- The same of a file of any mode: its bytes go through the page cache, or straight to the device where it has none
+pub record GoesAt (m : MountView) (file : FileId) (by : Tag) (p : PassView) : Type 0 where
+  pub of : IsPassOf m p
+  pub caller : by.caller ≡ p.caller
+  pub exists : HasFile m file
+  pub shares : HasShares m file 2 p
+
 -- Bytes from one place of a file up to another lie in the extent of a sample that has space for them and was given to the pass
 pub record CanLay (m : MountView) (file : FileId) (seen : Sample) (from to : ℕ) (p : PassView) : Type 0 where
   pub some : from < to
@@ -118,3 +129,17 @@ pub record LaysNothing (m : MountView) (may : Event → Bool) (file : FileId) (b
   pub stamps : stamps_in m.geometry.block_size (own_entries acts) ≡ []
   pub cause : IfSome fault (IsCaused (own_entries acts))
   pub sent : bios ≡ min (loans_in acts) (2 ^ 64 - 1)
+
+-- Bytes from one place of a file up to another lie in the extent of a sample that was given to the pass
+pub record LieUnder (m : MountView) (file : FileId) (seen : Sample) (from to : ℕ) (p : PassView) : Type 0 where
+  pub some : from < to
+  pub low : seen.extent.block * m.geometry.block_size ≤ from
+  pub high : to ≤ (seen.extent.block + seen.extent.length) * m.geometry.block_size
+  pub lies : LiesInStripe m file seen.extent
+  pub given : IsGivenAt p (stripe_at m file seen.extent.block) seen
+
+-- the fault is a device error, or want of memory
+abbrev pub IsDeviceOrMemory : Fault → Type 0
+IsDeviceOrMemory (Eio lane before after) = Unit {0}
+IsDeviceOrMemory NoMemory = Unit {0}
+IsDeviceOrMemory _ = ⊥

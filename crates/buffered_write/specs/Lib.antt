@@ -1,4 +1,10 @@
 pub mod Allocates
+pub mod Clears
+pub mod Cuts
 pub mod Grows
 pub mod Lays
+pub mod LaysLocked
+pub mod Punches
 pub mod Pwrites
+pub mod Truncates
+pub mod Zeroes

@@ -1,5 +1,5 @@
 -- What a write through the page cache does.
-use Rattle.std.specs.Prelude.{◌≡◌, ℕ, ◌+◌, ◌-◌, ◌^◌, ◌<◌, ◌≤◌, Ok, Err, ◌==◌, nat_le, nat_lt, is_none, min, Bool, true, false, not, ◌&&◌, if◌then◌else◌, Option, Some, None, IfSome, IsTrue, Result, List, [], ◌∷◌, All, drop, length, take}
+use Rattle.std.specs.Prelude.{◌≡◌, ℕ, ◌+◌, ◌-◌, ◌^◌, ◌<◌, ◌≤◌, Ok, Err, ◌==◌, nat_le, is_none, min, Bool, true, false, not, ◌&&◌, if◌then◌else◌, Option, Some, None, IfSome, IsTrue, Result, List, [], ◌∷◌, All, drop, length, take}
 use Rattle.std.specs.List.{concat}
 use Rattle.iob_base.specs.declared.answer.Answer.{Answer}
 use Rattle.iob_base.specs.declared.answer.Fault.{Fault}
@@ -9,8 +9,6 @@ use Rattle.iob_base.specs.declared.answer.Reply.TheVariants as reply
 use Rattle.iob_base.specs.declared.answer.Stop.TheVariants.{Whole}
 use Rattle.iob_base.specs.declared.stamp.FileId.{FileId}
 use Rattle.iob_base.specs.declared.stamp.Tag.{Tag}
-use Rattle.inode_lock.specs.View.{LockView}
-use Rattle.inode_lock.specs.declared.word.Class.TheVariants.{Exclusive}
 use Rattle.io_model.specs.Answered.{answered_in}
 use Rattle.io_model.specs.Lawful.{is_lawful_reply}
 use Rattle.io_model.specs.Parts.{range_in, span, span_length}
@@ -31,7 +29,6 @@ use Rattle.range_core.specs.declared.fault.EventFault.{EventFault}
 use Rattle.range_core.specs.declared.fault.EventFault.TheVariants.{Cold}
 use Rattle.mount_parts.specs.MountView.{HasBlock, MountView, file_at, stripe_at}
 use Rattle.mini_fs.specs.Acts.{Act, bios_in, own_entries}
-use Rattle.mini_fs.specs.Acts.Act.{Leave, Take}
 use Rattle.mini_fs.specs.CallActs.{CallActs, is_tag, loans_in, lock_acts, size_acts, tag_of}
 use Rattle.mini_fs.specs.Mappings.{IsGivenAt, IsOpen, TellsFrom, file_end}
 use Rattle.mini_fs.specs.PassView.{IsPassOf, PassView}
@@ -41,7 +38,9 @@ use Rattle.mini_fs.specs.Turns.{block_at}
 use Rattle.mini_fs.specs.declared.begun.Begun.{Begun}
 use Rattle.call_parts.specs.Causes.{IsCaused}
 use Rattle.buffered_write.specs.Grows.{AreSizeTurns, GrowsSize, MeetsSize, grown}
-use Rattle.buffered_write.specs.Lays.{HasLaid, LaysNothing, LieOn, laid_in}
+use Rattle.buffered_write.specs.Lays.{HasLaid, IsDeviceOrMemory, IsLeftAfter, LaysNothing, LieOn, laid_in}
+use Rattle.buffered_write.specs.LaysLocked.{HeldExclusive, HoldsClass}
+use Rattle.call_parts.specs.Fills.{fills}
 use Rattle.call_parts.specs.Parts.{stamps_over}
 use Rattle.call_parts.specs.Replies.{read_reply}
 use Rattle.call_parts.specs.Steps.{ServedBy, dones_in}
@@ -84,11 +83,11 @@ after_fill (fill.Failed block done) = try.Stopped (Eio done.lane done.before don
 after_fill fill.NoMemory = try.Stopped NoMemory
 
 -- a cold block was to be read into the cache, and how the part that needs it goes on
-abbrev pub Warmed : MountView → FileId → Tag → LaneView → LaneView → PassView → PassView → ℕ → Try → Type 0
-Warmed m file by before after p q bios try.Stored = ⊥
-Warmed m file by before after p q bios try.Again = LaysNothing m (may_write by) file before after p q bios None
-Warmed m file by before after p q bios try.Stale = ⊥
-Warmed m file by before after p q bios (try.Stopped fault) = LaysNothing m (may_write by) file before after p q bios (Some fault)
+abbrev pub Warmed : MountView → FileId → LaneView → LaneView → PassView → PassView → ℕ → Try → Type 0
+Warmed m file before after p q bios try.Stored = ⊥
+Warmed m file before after p q bios try.Again = LaysNothing m fills file before after p q bios None
+Warmed m file before after p q bios try.Stale = ⊥
+Warmed m file before after p q bios (try.Stopped fault) = LaysNothing m fills file before after p q bios (Some fault) × IsDeviceOrMemory fault
 
 module _ (m : MountView) (file : FileId) (by : Tag) (from : ℕ) where
   -- The next bytes of an iov were laid over a file from a place on, up to where the write came, and the iov's place moved on by them
@@ -139,14 +138,6 @@ pub record CameOn (it later : IterView) (at : ℕ) : Type 0 where
   pub left : at + later.left ≡ it.pos + it.left
   pub ended : later.unfinished ≡ None
 
--- Of the acts at locks the first took the exclusive class of the file, and the other one left it
-pub record TookExclusive (file : FileId) (acts : List Act) : Type 0 where
-  pub home : LockView
-  pub taken : LockView
-  pub held : LockView
-  pub back : LockView
-  pub locks_are : lock_acts acts ≡ Take file Exclusive home taken ∷ Leave file Exclusive held back ∷ []
-
 -- how a write replies of so many bytes from an offset on, in a file that ends at a byte, that did some of them and then met a fault or none
 abbrev pub write_reply : ℕ → ℕ → ℕ → ℕ → Option Fault → Reply
 write_reply end off asked count fault =
@@ -155,11 +146,6 @@ write_reply end off asked count fault =
 -- the write has bytes, and begins before the end of the file
 abbrev pub has_room : ℕ → ℕ → ℕ → Bool
 has_room end off asked = not (asked == 0) && not (nat_le end off)
-
--- the class that a write takes: none where it has no bytes or begins past the end of the file, and then it makes no turn
-abbrev pub TakesClass : Bool → FileId → List Act → Type 0
-TakesClass true file acts = TookExclusive file acts
-TakesClass false file acts = (lock_acts acts ≡ []) × (own_entries acts ≡ [])
 
 -- The next bytes of an iov were laid over a file from a place on, up to where the write came, each block that has some of them was stamped once, and nothing else was laid or stamped. `Also` holds of the acts, which may be at the file's lock and size too
 pub record WroteWith (Also : List Act → Type 0) (m : MountView) (file : FileId) (by : Tag) (from : ℕ) (before after : LaneView) (p q : PassView) (iov later : IovView) (came : Progress) : Type 0 where
@@ -191,9 +177,9 @@ abbrev pub IsUnlocked : MountView → FileId → ℕ → Tag → ℕ → Progres
 IsUnlocked m file caller by from came acts = (lock_acts acts ≡ []) × GrowsSize (file_at m file).size caller by from (came.at - from) came.fault (size_acts acts)
 
 abbrev pub IsLocked : MountView → FileId → ℕ → Tag → ℕ → Progress → List Act → Type 0
-IsLocked m file caller by from came acts = TookExclusive file acts × GrowsSize (file_at m file).size caller by from (came.at - from) came.fault (size_acts acts)
+IsLocked m file caller by from came acts = HeldExclusive file acts × GrowsSize (file_at m file).size caller by from (came.at - from) came.fault (size_acts acts)
 
--- What a write of an iov's bytes over a file did, from an offset on: under the exclusive class it laid the first bytes of the iov over the file, as many as it answers, in order, stamped each block of these once, laid and stamped nothing else, and raised a size of the file to where these bytes end. The iov's place is behind the bytes answered
+-- What a write of an iov's bytes over a file did, from an offset on: it laid the first bytes of the iov over the file, as many as it answers, in order, all while it held the exclusive class, stamped each block of these once, laid and stamped nothing else, and raised a size of the file to where these bytes end. The iov's place is behind the bytes answered
 pub record Pwrites (m : MountView) (file : FileId) (call off : ℕ) (before after : LaneView) (p q : PassView) (iov later : IovView) (answer : Answer) : Type 0 where
   pub count : ℕ
   pub fault : Option Fault
@@ -202,12 +188,13 @@ pub record Pwrites (m : MountView) (file : FileId) (call off : ℕ) (before afte
   pub callers : All (λ e. e.caller ≡ p.caller) (own_entries acts)
   pub run : bios_in acts ≡ loans_in acts
   pub lane : ServedBy before after (dones_in (own_entries acts))
-  pub class : TakesClass (has_room (file_end m file) off (length iov.bytes)) file acts
+  pub class : HoldsClass (has_room (file_end m file) off (length iov.bytes)) file call acts
   pub sizes : MeetsSize (has_room (file_end m file) off (length iov.bytes)) (file_at m file).size p.caller (tag_of p call) off count fault acts
   pub laid : LieOn off (off + count) (take count iov.bytes) (laid_in m.geometry.block_size (own_entries acts))
   pub stamps : stamps_in m.geometry.block_size (own_entries acts) ≡ stamps_over m.geometry.block_size (answered_in m.geometry.block_size (range_in (file_end m file) off (length iov.bytes)) false answer.reply) (done_by (tag_of p call))
   pub reply : answer.reply ≡ write_reply (file_end m file) off (length iov.bytes) count fault
   pub lawful : (segments : List (List ℕ)) → concat segments ≡ iov.bytes → IsTrue (is_lawful_reply m.geometry.grain m.geometry.block_size (file_at m file).blocks (range_in (file_end m file) off (length iov.bytes)) true (Pwrite off segments) answer.reply)
   pub cause : IfSome fault (IsCaused (own_entries acts))
+  pub stops : IfSome fault (λ f. IsLeftAfter m.geometry.block_size off count)
   pub bios : answer.bios ≡ min (loans_in acts) (2 ^ 64 - 1)
   pub moved : later ≡ moved_to count iov

@@ -1,9 +1,10 @@
 //! A part of a write, all in one folio and in one mapping, is stored in the page cache.
 ghost use Rattle.std.specs.Prelude.{◌≡◌, ◌-◌, ◌/◌, ◌<◌, ◌≤◌};
+ghost use Rattle.iob_base.specs.declared.stamp.Mode.TheVariants.{Cached};
 ghost use Rattle.fault_device.specs.LaneView.{lane_seen};
 ghost use Rattle.range_core.specs.ByteRuns.{HasNext};
-ghost use Rattle.mount_parts.specs.MountView.{HasBlock};
-ghost use Rattle.buffered_write.specs.Lays.{CanLay, EndsAt, GoesOn};
+ghost use Rattle.mount_parts.specs.MountView.{HasBlock, file_at};
+ghost use Rattle.buffered_write.specs.Lays.{CanLay, EndsAt, GoesAt, GoesOn};
 ghost use Rattle.buffered_write.specs.Pwrites.{StoredOnce, Warmed, Writes, after_fill, came_of, followed};
 
 use call_parts::{Fill, Progress, bios_of, fill_cold};
@@ -61,7 +62,7 @@ pub(crate) fn followed(came: Progress, next: Progress) -> Progress
 }
 
 // How far a try came that was to store the bytes from one place up to another, and sent so many bios.
-fn came_of(from: u64, to: u64, bios: u64, tried: Try) -> Progress
+pub(crate) fn came_of(from: u64, to: u64, bios: u64, tried: Try) -> Progress
     ensures { result ≡ came_of from to bios tried }
 {
     let (at, fault) = match tried {
@@ -96,8 +97,8 @@ fn store_once<R: Wait>(
     mount.store(rt, pass, file, by, seen, from, to, iov)
 }
 
-// A cold block of a file is read for the caller of a tag.
-fn warm<R: Wait>(
+// A cold block of a cached file is read for the caller of a tag.
+pub(crate) fn warm<R: Wait>(
     rt: &R,
     mount: &Mount,
     pass: &mut Pass,
@@ -106,11 +107,12 @@ fn warm<R: Wait>(
     by: Tag,
     block: u64,
 ) -> (Try, u64)
-    requires goes { GoesOn mount.now file by pass.old }
+    requires goes { GoesAt mount.now file by pass.old }
+    requires cached { (file_at mount.now file).mode ≡ Cached }
     requires block { HasBlock mount.now file block }
-    ensures goes { GoesOn mount.now file by pass.new }
+    ensures goes { GoesAt mount.now file by pass.new }
     ensures begun { pass.new.begun ≡ pass.old.begun }
-    ensures warmed { Warmed mount.now file by (lane_seen count tells lane.old) (lane_seen count tells lane.new) pass.old pass.new result.1 result.0 }
+    ensures warmed { Warmed mount.now file (lane_seen count tells lane.old) (lane_seen count tells lane.new) pass.old pass.new result.1 result.0 }
 {
     let fill = fill_cold(rt, mount, pass, lane, file, block, 1);
     (after_fill(fill), bios_of(fill))

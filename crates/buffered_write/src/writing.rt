@@ -38,15 +38,15 @@ const WRITE: Flags = Flags {
 };
 
 // A reply with a number of bios.
-fn answer(reply: Reply, bios: u64) -> Answer
+pub(crate) fn answer(reply: Reply, bios: u64) -> Answer
     ensures reply { result.reply ≡ reply }
     ensures bios { result.bios ≡ bios }
 {
     Answer { reply, bios }
 }
 
-// Whether a write goes on behind a part.
-fn goes_on(part: &Written) -> bool
+// Whether a call goes on behind a part.
+pub(crate) fn goes_on(part: &Written) -> bool
     ensures { result ≡ is_whole part.now }
 {
     if part.stale {
@@ -97,8 +97,8 @@ fn write_mapping<R: Wait>(
     Written { came, stale: false }
 }
 
-// Where what is written of a range in a mapping ends: with the mapping, or with the range.
-fn mapped_end(iter: &IomapIter, iomap: &Iomap) -> u64
+// Where what is done of a range in a mapping ends: with the mapping, or with the range.
+pub(crate) fn mapped_end(iter: &IomapIter, iomap: &Iomap) -> u64
     requires mapping { iomap.now.offset + iomap.now.length < 2 ^ 64 }
     requires range { iter.now.pos + iter.now.left < 2 ^ 64 }
     ensures { result ≡ min (iomap.now.offset + iomap.now.length) (iter.now.pos + iter.now.left) }
@@ -107,7 +107,7 @@ fn mapped_end(iter: &IomapIter, iomap: &Iomap) -> u64
 }
 
 // The mapping, as one that was found out of date or not.
-fn marked(iomap: Iomap, stale: bool) -> Iomap
+pub(crate) fn marked(iomap: Iomap, stale: bool) -> Iomap
     ensures { result ≡ marked iomap stale }
 {
     let mut marked = iomap;

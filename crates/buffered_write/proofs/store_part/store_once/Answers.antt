@@ -1,15 +1,15 @@
-use Rattle.buffered_write.proofs.StoredLemmas.{given-here, lay-block, lay-some, once-goes, store-ready, stored-once}
+use Rattle.buffered_write.proofs.StoredLemmas.{lay-some, once-goes, store-ready, stored-once}
+use Rattle.buffered_write.proofs.UnderLemmas.{given-here, under-block, under-of}
 use Rattle.mini_fs.specs.PassView.{claims_of}
 use Rattle.buffered_write.proofs.store_part.store_once.Goals as goal
 
 pub store-requires-clause-block : goal.store-requires-clause-block
-store-requires-clause-block g c = lay-block c.args.mount.now c.args.file c.args.seen c.args.from c.args.to c.args.pass.now (lay-some c.args.mount.now c.args.file c.args.seen c.args.from c.args.to c.args.pass.now c.requires.can) c.requires.can
+store-requires-clause-block g c = under-block c.args.mount.now c.args.file c.args.seen c.args.from c.args.to c.args.pass.now (under-of c.args.mount.now c.args.file c.args.seen c.args.from c.args.to c.args.pass.now c.requires.can)
 
 pub store-requires-clause-ready : goal.store-requires-clause-ready
 store-requires-clause-ready g c = λ cell seat stand. (
-  store-ready c.args.mount.now c.args.file c.args.seen c.args.from c.args.to c.args.pass.now c.args.iov.now c.is_laid_out.ensures (lay-some c.args.mount.now c.args.file c.args.seen c.args.from c.args.to c.args.pass.now c.requires.can) c.requires.goes.cached c.requires.can
-      c.requires.folio c.requires.room cell stand.cell_is,
-  given-here c.args.mount.now c.args.file c.args.seen c.args.from c.args.to c.args.pass.now seat c.requires.can stand.seat_is,
+  store-ready c.args.mount.now c.args.file c.args.seen c.args.from c.args.to c.args.pass.now c.args.iov.now c.is_laid_out.ensures c.requires.goes.cached c.requires.can c.requires.folio c.requires.room cell stand.cell_is,
+  given-here c.args.mount.now c.args.file c.args.seen c.args.from c.args.to c.args.pass.now (under-of c.args.mount.now c.args.file c.args.seen c.args.from c.args.to c.args.pass.now c.requires.can) seat stand.seat_is,
 )
 
 pub returns-clause-came : goal.returns-clause-came

@@ -1,4 +1,5 @@
-use Rattle.buffered_write.proofs.PwriteLemmas.{free-after, goes-taken, held-after, locked-so}
+use Rattle.buffered_write.proofs.LaidLemmas.{free-after, held-after}
+use Rattle.buffered_write.proofs.PwriteLemmas.{goes-taken, locked-so}
 use Rattle.buffered_write.proofs.writing.write_locked.Goals as goal
 
 pub write_any-came-requires-clause-goes : goal.write_any-came-requires-clause-goes

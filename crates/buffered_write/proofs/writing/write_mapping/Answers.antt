@@ -1,6 +1,6 @@
-use Rattle.std.proofs.Common.{refl, sym, ap, ◌∙◌, ◌≡◌, subst, arith}
+use Rattle.std.proofs.Common.{sym, ap, ◌∙◌, ◌≡◌, subst, arith}
 use Rattle.call_parts.specs.Parts.{part_end}
-use Rattle.buffered_write.specs.Pwrites.{Writes, followed}
+use Rattle.buffered_write.specs.Pwrites.{Writes}
 use Rattle.call_parts.specs.declared.progress.Progress.{Progress}
 use Rattle.buffered_write.proofs.StoredLemmas.{lay-some, writes-then}
 use Rattle.buffered_write.proofs.WriteLemmas.{HasWritten, meet-on, part-of, whole-part, written-none, written-on}

@@ -1,4 +1,4 @@
-use Rattle.std.proofs.Common.{Ok, Err, ◌<◌, arith}
+use Rattle.std.proofs.Common.{◌<◌, arith}
 use Rattle.size_core.specs.declared.entry.SizeEvent.TheVariants.{Ready}
 use Rattle.mini_fs.specs.Mappings.{file_end}
 use Rattle.buffered_write.proofs.PwriteLemmas.{made-so, refused-so, size-goes}

@@ -1,0 +1,40 @@
+use Rattle.std.proofs.Common.{sym, ap, ◌∙◌, ◌≡◌, subst, arith}
+use Rattle.call_parts.specs.Parts.{part_end}
+use Rattle.call_parts.specs.declared.progress.Progress.{Progress}
+use Rattle.buffered_write.specs.Zeroes.{Zeroes}
+use Rattle.buffered_write.proofs.UnderLemmas.{under-some}
+use Rattle.buffered_write.proofs.WriteLemmas.{meet-on, part-of, whole-part}
+use Rattle.buffered_write.proofs.ZeroLemmas.{HasZeroed, zeroed-none, zeroed-on}
+use Rattle.buffered_write.proofs.ZeroPartLemmas.{zeroes-then}
+use Rattle.buffered_write.proofs.zeroing.zero_mapping.Goals as goal
+
+pub loop-came-init : goal.loop-came-init
+loop-came-init g c = zeroed-none c.args.mount.now c.args.file c.args.by c.args.seen c.args.from c.args.to _ c.args.pass.now c.requires.goes c.requires.under
+
+pub zero_part-part-requires-clause-folio : goal.zero_part-part-requires-clause-folio
+zero_part-part-requires-clause-folio g c =
+    (part-of c.args.mount.now c.sizes-geometry.ensures.blocks c.sizes-geometry.ensures.folios c.args.to c.loop-came.came.at c.part_end-next.result (c.part_end-next.ensures ∙ ap (λ g. part_end g c.args.to c.loop-came.came.at) c.sizes-geometry.ensures.is) c.loop-came-test.true).in_folio
+
+pub returns-then-not-goes_on-clause-zeroed : goal.returns-then-not-goes_on-clause-zeroed
+returns-then-not-goes_on-clause-zeroed g c =
+    let sofar = c.loop-came.invariant in
+    subst (Zeroes c.args.mount.now c.args.file c.args.by c.args.from _ _ c.args.pass.now c.zero_part-part.new.pass) (sym c.followed-came.ensures)
+    (zeroes-then c.args.mount.now c.args.file c.args.by c.args.from _ _ _ c.args.pass.now c.loop-came.pass c.zero_part-part.new.pass c.loop-came.came c.zero_part-part.result.came
+    (under-some c.args.mount.now c.args.file c.args.seen c.args.from c.args.to c.args.pass.now c.requires.under) sofar.whole (meet-on c.args.mount.now.geometry.block_size c.args.from c.loop-came.came.at c.args.to c.zero_part-part.result.came.at c.loop-came-test.true sofar.meet) sofar.zeroes c.zero_part-part.ensures.zeroed)
+
+pub loop-came-smaller : goal.loop-came-smaller
+loop-came-smaller g c =
+    let part = part-of c.args.mount.now c.sizes-geometry.ensures.blocks c.sizes-geometry.ensures.folios c.args.to c.loop-came.came.at c.part_end-next.result (c.part_end-next.ensures ∙ ap (λ g. part_end g c.args.to c.loop-came.came.at) c.sizes-geometry.ensures.is) c.loop-came-test.true in
+    let some = part.some in
+    let within = part.within in
+    let reached = (whole-part c.args.mount.now.geometry.block_size c.loop-came.came.at c.part_end-next.result c.zero_part-part.result.came c.zero_part-part.result.stale (sym c.goes_on.ensures ∙ c.if-not-goes_on.false) c.zero_part-part.ensures.ends).1 in
+    let at : c.followed-came.result.at ≡ c.zero_part-part.result.came.at = ap (λ (v : Progress). v.at) c.followed-came.ensures in
+    omega (arith, some, within, reached, at)
+
+pub loop-came-preserved : goal.loop-came-preserved
+loop-came-preserved g c =
+    let part = part-of c.args.mount.now c.sizes-geometry.ensures.blocks c.sizes-geometry.ensures.folios c.args.to c.loop-came.came.at c.part_end-next.result (c.part_end-next.ensures ∙ ap (λ g. part_end g c.args.to c.loop-came.came.at) c.sizes-geometry.ensures.is) c.loop-came-test.true in
+    let whole = whole-part c.args.mount.now.geometry.block_size c.loop-came.came.at c.part_end-next.result c.zero_part-part.result.came c.zero_part-part.result.stale (sym c.goes_on.ensures ∙ c.if-not-goes_on.false) c.zero_part-part.ensures.ends in
+    subst (HasZeroed c.args.mount.now c.args.file c.args.by c.args.seen c.args.from c.args.to _ _ c.args.pass.now c.zero_part-part.new.pass) (sym c.followed-came.ensures)
+    (zeroed-on c.args.mount.now c.args.file c.args.by c.args.seen c.args.from c.args.to _ _ _ c.args.pass.now c.loop-came.pass c.zero_part-part.new.pass c.loop-came.came c.zero_part-part.result.came c.part_end-next.result
+    c.loop-came-test.true part whole.0 whole.1 c.loop-came.invariant c.zero_part-part.ensures.zeroed c.zero_part-part.ensures.goes c.zero_part-part.ensures.begun)
