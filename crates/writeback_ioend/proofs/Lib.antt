@@ -1,2 +1,15 @@
+mod AskLemmas
+mod BackLemmas
 mod Drops
+mod FindPieces
+mod FlushLemmas
+mod FolioLemmas
+mod FoundLemmas
+mod LendLemmas
+mod LendPieces
 mod Merging
+mod Moves
+mod SeenLemmas
+mod SyncLemmas
+mod WalkLemmas
+mod WriteOuts

@@ -1,2 +1,9 @@
-pub mod ErrorCounts
+pub mod AnswersWriteBack
 pub mod DropsCache
+pub mod ErrorCounts
+pub mod Flushes
+pub mod Folios
+pub mod Syncs
+pub mod Walks
+pub mod WriteRuns
+pub mod Writebacks

@@ -11,7 +11,7 @@ use mini_fs::{Mount, Pass};
 use std::sync::Wait;
 
 // How many blocks the stripe of a file from a block on has.
-fn blocks_from(mount: &Mount, file: FileId, from: u64) -> u64
+pub(crate) fn blocks_from(mount: &Mount, file: FileId, from: u64) -> u64
     requires { HasFile mount.now file }
     ensures { result ≡ blocks_from (file_at mount.now file).blocks from }
 {

@@ -1,5 +1,5 @@
 //! How many failed writebacks of each file a caller has been told of.
-ghost use Rattle.std.specs.Prelude.{◌≡◌, ◌<◌, IfOk, length, replicate};
+ghost use Rattle.std.specs.Prelude.{◌≡◌, ◌<◌, IfOk, length, replicate, set};
 ghost use Rattle.writeback_ioend.specs.ErrorCounts.{count_of, greater_counts};
 
 use iob_base::FileId;
@@ -40,6 +40,17 @@ impl ErrorSeen {
         ensures { result ≡ count_of self.now file }
     {
         self.counts[file.0 as usize]
+    }
+
+    // The caller is told of this many of a file. It answers how many were told before.
+    pub(crate) fn tell(&mut self, file: FileId, count: u64) -> u64
+        requires { file.0 < length self.old }
+        ensures told { result ≡ count_of self.old file }
+        ensures counts { self.new ≡ set self.old file.0 count }
+    {
+        let told = self.counts[file.0 as usize];
+        self.counts[file.0 as usize] = count;
+        told
     }
 
     /// What was told to another caller too: of each file the greater count.
