@@ -1,7 +1,7 @@
 mod Going
-mod Lending
+pub mod Lending
 mod Mapped
 mod Parting
-mod Starting
-mod Storing
 pub mod Sizing
+pub mod Starting
+mod Storing

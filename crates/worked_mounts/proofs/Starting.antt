@@ -22,6 +22,7 @@ use Rattle.mount_parts.specs.declared.file.FilePlace.{FilePlace}
 use Rattle.mount_parts.proofs.Places.{set-length}
 use Rattle.mini_fs.specs.PassView.{IsPassOf, PassView, SizeSeat, share_in}
 use Rattle.mini_fs.specs.Starts.{Started, first_size_seat}
+use Rattle.mini_fs.specs.Wholes.{HasWhole}
 use Rattle.mini_fs.proofs.Layouts.{stripe-within}
 use Rattle.worked_mounts.specs.Alone.{IsAlone, only_file, share_of}
 use Rattle.worked_mounts.specs.Begins.{IsDevice, MayBegin, file_with, rise}
@@ -113,6 +114,13 @@ module _ (device blocks : ℕ) (size : Option ℕ) (cookie : ℕ) (extents : Lis
   pub files-sized : All (MayHaveSize 16) (file ∷ [])
   files-sized = All-cons (MayHaveSize 16) file [] (may-size size may.sized) (All-nil (MayHaveSize 16))
 
+-- the first pass of any mount has all there is
+pub start-whole : (g : Layout) (cookie : ℕ) (sectors : List DeviceBlock) (files : List FileSpec) (m : MountView) (p : PassView) → Started g cookie sectors files m p → HasWhole p
+start-whole g cookie sectors files m p s = record {
+  stripes = subst (All (λ (x : SeatView Entry). x.share ≡ 2 ^ 63)) (sym s.stripe_seats) (All-map (λ (x : SeatView Entry). x.share ≡ 2 ^ 63) is_first_at m.stripes (λ k d below. refl));
+  sizes = subst (All (λ (x : SizeSeat). x.seat.share ≡ 2 ^ 63)) (sym s.size_seats) (All-map (λ (x : SizeSeat). x.seat.share ≡ 2 ^ 63) first_size_seat m.sizes (λ k d below. refl));
+}
+
 -- the first pass of such a mount
 first-share : (cs : List (CellView RangeView)) → 0 < length cs → share_in (slice_get (map (is_first_at {E = Entry}) cs) 0) ≡ 2 ^ 63
 first-share [] some = absurd (omega arith)
@@ -150,3 +158,6 @@ module _ (cookie blocks : ℕ) (size : Option ℕ) (extents : List Extent) (sect
 
   pub start-none : size ≡ None → m.sizes ≡ []
   start-none none = none-seen (λ (c : CellView SizesView). c.opening) m.sizes (s.sizes ∙ ap (λ o. first_sizes 16 (file_with blocks o extents ∷ [])) none)
+
+  pub start-one : length m.files ≡ 1
+  start-one = ap length s.files_are

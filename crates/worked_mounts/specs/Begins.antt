@@ -5,8 +5,9 @@ use Rattle.iob_base.specs.declared.TheConstants.{WORN}
 use Rattle.iob_base.specs.declared.stamp.Mode.TheVariants.{Cached}
 use Rattle.io_model.specs.declared.file.Extent.{Extent}
 use Rattle.io_model.specs.declared.file.FileSpec.{FileSpec}
-use Rattle.file_stripes.specs.Files.{IsFile, numbers_of_file}
+use Rattle.file_stripes.specs.Files.{IsFile, numbers_of_file, numbers_of_files}
 use Rattle.file_stripes.specs.Taking.{AreInOrder, IsWhole}
+use Rattle.mount_parts.specs.FirstSizes.{MayHaveSize}
 
 -- a cached file of so many blocks, with this size and these extents
 abbrev pub file_with : ℕ → Option ℕ → List Extent → FileSpec
@@ -23,6 +24,12 @@ pub record MayBegin (device blocks : ℕ) (size : Option ℕ) (cookie : ℕ) (ex
   pub numbers : IsTrue (rise 0 device (numbers_of_file (file_with blocks size extents)))
   pub sized : IfSome size (λ n. n ≤ blocks * 16)
   pub cookie_is : cookie ≤ WORN
+
+-- A device of so many blocks, each of 16 bytes, may have these files, whose device numbers go up from one to the next
+pub record MayHold (device : ℕ) (files : List FileSpec) : Type 0 where
+  pub each : All IsFile files
+  pub numbers : IsTrue (rise 0 device (numbers_of_files files))
+  pub sized : All (MayHaveSize 16) files
 
 -- The blocks of a device of so many, each of 16 bytes, in the order of their numbers
 pub record IsDevice (blocks : ℕ) (sectors : List DeviceBlock) : Type 0 where

@@ -1,6 +1,7 @@
 //! A file of three stripes: what is left of them is joined over the borders at blocks 64 and 128.
-use crate::mount_ground::{Begin, ended, letter, started};
+use crate::mount_ground::{letter, started};
 use crate::mount_texts::{block_text, extents_text};
+use crate::single::{Begin, ended};
 use io_model::{Extent, Kind};
 use std::alloc::{AllocError, Global};
 use std::test::Fail;

@@ -2,10 +2,11 @@
 ghost use Rattle.std.specs.Prelude.{◌≡◌, ◌<◌, IfOk};
 ghost use Rattle.worked_mounts.specs.Alone.{IsAlone, share_of};
 
-use crate::mount_ground::{Begin, ended, file_left, started};
+use crate::mount_ground::started;
 use crate::mount_passes::{join, join_all, split, split_all};
 use crate::mount_texts::{block_text, extents_text};
 use crate::mount_writes::write_through;
+use crate::single::{Begin, ended, file_left};
 use fault_device::{Lane, Listed};
 use io_model::{Extent, FileEnd, Kind};
 use mini_fs::{Mount, Pass};

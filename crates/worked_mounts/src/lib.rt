@@ -1,4 +1,6 @@
 //! Tests of a mount by calls of its passes, with answers that are worked out by hand.
+//!
+//! The tests of the calls above stand on the same mounts of one file, so these are public.
 #![tactic(auto)]
 
 #[cfg(test)]
@@ -23,3 +25,6 @@ mod mount_turns;
 mod mount_writes;
 #[cfg(test)]
 mod mounts;
+mod single;
+
+pub use single::{Begin, FILE, ended, file_left, started_on};

@@ -3,7 +3,7 @@ ghost use Rattle.std.specs.Prelude.{◌≡◌, ◌*◌, ◌<◌, ◌≤◌, IfOk
 ghost use Rattle.mini_fs.specs.Mappings.{file_end};
 ghost use Rattle.worked_mounts.specs.Alone.{HasMapping, IsAlone, only_file, share_of};
 
-use crate::mount_ground::FILE;
+use crate::single::FILE;
 use iomap_core::{BeginFault, Flags, Iomap, IomapOps};
 use mini_fs::{Mount, Pass};
 use std::process::Abort;

@@ -4,7 +4,8 @@ ghost use Rattle.mini_fs.specs.Mappings.{file_end};
 ghost use Rattle.mini_fs.specs.SizeTurns.{HasSize};
 ghost use Rattle.worked_mounts.specs.Alone.{HasRoom, IsAlone, only_file, share_of};
 
-use crate::mount_ground::{Begin, FILE, ended, file_left, started};
+use crate::mount_ground::started;
+use crate::single::{Begin, FILE, ended, file_left};
 use io_model::{FileEnd, SizeMark, SizeStamp};
 use iob_base::Tag;
 use mini_fs::{Mount, Pass};

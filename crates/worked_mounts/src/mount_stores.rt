@@ -4,7 +4,7 @@ ghost use Rattle.range_core.specs.Kinds.{is_hole};
 ghost use Rattle.worked_mounts.specs.Alone.{HasMapping, IsAlone, IsSeen, KeepsMapping, share_of};
 ghost use Rattle.worked_mounts.specs.Buffers.{IsBuffer};
 
-use crate::mount_ground::FILE;
+use crate::single::FILE;
 use io_model::{Extent, Kind};
 use iob_base::Tag;
 use iomap_core::Iomap;

@@ -3,7 +3,7 @@ ghost use Rattle.std.specs.Prelude.{◌≡◌, ◌+◌, ◌%◌, ◌<◌, ◌≤
 ghost use Rattle.mount_parts.specs.MountView.{HasFile, file_at};
 ghost use Rattle.worked_mounts.specs.Alone.{IsAlone, KeepsMapping, only_file, share_of};
 
-use crate::mount_ground::FILE;
+use crate::single::FILE;
 use mini_fs::{Mount, Pass};
 use range_core::{EventFault, Sample};
 use std::process::Abort;

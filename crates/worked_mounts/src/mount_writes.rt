@@ -6,10 +6,10 @@ ghost use Rattle.mini_fs.specs.PassView.{IsPassOf, with_bios};
 ghost use Rattle.mini_fs.specs.Tickets.{KeepsTickets};
 ghost use Rattle.worked_mounts.specs.Alone.{IsAlone, share_of};
 
-use crate::mount_ground::FILE;
 use crate::mount_maps::{begin, end};
 use crate::mount_stores::store;
 use crate::mount_turns::expect_run;
+use crate::single::FILE;
 use bio_pages::Bio;
 use fault_device::{Done, Lane};
 use iob_base::{Op, Parts};

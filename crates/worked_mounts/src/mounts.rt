@@ -1,9 +1,10 @@
 //! Mappings that go stale, and cookies that are used up.
-use crate::mount_ground::{Begin, ended, file_left, started};
+use crate::mount_ground::started;
 use crate::mount_maps::{begin, end};
 use crate::mount_stores::store;
 use crate::mount_texts::{block_text, extents_text, mapping_text, sample_text};
 use crate::mount_turns::{look, place};
+use crate::single::{Begin, ended, file_left};
 use io_model::FileEnd;
 use iob_base::WORN;
 use iomap_core::BeginFault;
