@@ -3,6 +3,7 @@ use Rattle.std.proofs.Common.{◌≡◌, ℕ, zero, suc, ◌+◌, ◌-◌, ◌<�
 use mathlib.Core.Option.{some}
 use lib.ListN.{get_elem?}
 use Rattle.std.specs.Prelude.{All, slice_get, slice_index_or}
+use Rattle.iob_base.specs.declared.stamp.FileId.{FileId}
 use Rattle.iob_base.specs.declared.stamp.Op.TheVariants.{Write}
 use Rattle.bio_pages.specs.Lists.{AreRun, CanSend}
 use Rattle.bio_pages.specs.Running.{IsRun}
@@ -75,21 +76,25 @@ goes-ticket p q r s k t u o more g is home c =
 pub goes-bios : (p q : PassView) (bios : BioSeatsView) → q ≡ with_bios p bios → Goes p q
 goes-bios p q bios is = subst (Goes p) (sym is) (record { stripes = refl; sizes = refl; locks = refl; spare = refl })
 
-module _ (m : MountView) (p : PassView) (b : ℕ) (laid : IsLaidOut m) (alone : IsAlone m p) (has : HasBlock m only_file b) where
-  -- the pass has its share at the stripe of a block
-  pub share-here : share_at p (stripe_at m only_file b) ≡ share_of p
-  share-here =
-      let k = stripe_at m only_file b in
-      let within = stripe-within m only_file b laid has in
+module _ (m : MountView) (file : FileId) (p : PassView) (b : ℕ) (laid : IsLaidOut m) (alone : IsAlone m p) (has : HasBlock m file b) where
+  -- the pass has its share at the stripe of a block of any file
+  pub share-there : share_at p (stripe_at m file b) ≡ share_of p
+  share-there =
+      let k = stripe_at m file b in
+      let within = stripe-within m file b laid has in
       let long = same-length (λ (s : SeatView Entry). s.cell) (λ (c : CellView RangeView). c.cell) p.stripes m.stripes alone.of.stripes in
       let s = there p.stripes k (omega (arith, within, long)) in
       ap share_in s.1 ∙ all-at (λ (x : SeatView Entry). x.share ≡ share_of p) p.stripes k s.0 alone.shares s.1
 
+-- at that of a block of the first file
+pub share-here : (m : MountView) (p : PassView) (b : ℕ) → IsLaidOut m → IsAlone m p → HasBlock m only_file b → share_at p (stripe_at m only_file b) ≡ share_of p
+share-here m p b = share-there m only_file p b
+
 -- a block may be lent for a write
-pub lend-ready : (m : MountView) (p : PassView) (stripe b : ℕ) (held : Option Held) → IsLaidOut m → stripe ≡ stripe_at m only_file b → held ≡ None → b + 1 ≤ (file_at m only_file).blocks
+pub lend-ready : (m : MountView) (file : FileId) (p : PassView) (stripe b : ℕ) (held : Option Held) → IsLaidOut m → stripe ≡ stripe_at m file b → held ≡ None → b + 1 ≤ (file_at m file).blocks
     → ReadyAt (λ opening seen claims. MayWrite opening claims b 1) m p stripe (lent_claims p held)
-lend-ready m p stripe b held laid at free within cell seat stand = record {
-  lies = run-lies m only_file laid b 1 (omega arith) within (omega arith) cell (ap (slice_get m.stripes) (sym at) ∙ stand.cell_is);
+lend-ready m file p stripe b held laid at free within cell seat stand = record {
+  lies = run-lies m file laid b 1 (omega arith) within (omega arith) cell (ap (slice_get m.stripes) (sym at) ∙ stand.cell_is);
   free = free;
 }
 

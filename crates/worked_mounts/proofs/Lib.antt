@@ -1,7 +1,9 @@
-mod Going
+mod Gates
+pub mod Going
 pub mod Lending
 mod Mapped
-mod Parting
+pub mod Parting
+mod Queueing
 pub mod Sizing
 pub mod Starting
 mod Storing

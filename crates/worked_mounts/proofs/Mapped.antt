@@ -2,6 +2,7 @@
 use Rattle.std.proofs.Common.{◌≡◌, ℕ, ◌++◌, inl, inr, List, [], ◌∷◌, false, true, length, set, Option, Some, None, Ok, Err, refl, sym, ap, ◌∙◌, subst}
 use Rattle.std.specs.Prelude.{IfOk, IfSome, IsSomeAnd, Result, slice_get}
 use Rattle.iob_base.specs.declared.stamp.FileId.{FileId}
+use Rattle.iob_base.specs.declared.stamp.Mode.TheVariants.{Cached}
 use Rattle.iomap_core.specs.Mappings.{IsBegun}
 use Rattle.iomap_core.specs.declared.mapping.Iomap.{Iomap}
 use Rattle.iomap_core.specs.declared.ops.BeginFault.{BeginFault}
@@ -15,7 +16,7 @@ use Rattle.range_core.specs.declared.entry.Outcome.TheVariants.{Sampled}
 use Rattle.range_core.specs.declared.fault.EventFault.{EventFault}
 use Rattle.range_core.specs.declared.sample.Sample.{Sample}
 use Rattle.range_core.proofs.SampleLemmas.{given_later}
-use Rattle.mount_parts.specs.MountView.{MountView, stripe_at}
+use Rattle.mount_parts.specs.MountView.{MountView, file_at, stripe_at}
 use Rattle.mount_parts.proofs.Places.{set-same}
 use Rattle.mini_fs.specs.Acts.Act.{Turn}
 use Rattle.mini_fs.specs.MapTurns.{MakesTurn, MakesTurns, MapTurn}
@@ -27,7 +28,7 @@ use Rattle.mini_fs.specs.declared.begun.Begun.{Begun}
 use Rattle.mini_fs.proofs.ActLemmas.{act-seat, turned-act}
 use Rattle.mini_fs.proofs.MapSteps.{look-given, look-starts}
 use Rattle.mini_fs.proofs.Opens.{still-open}
-use Rattle.worked_mounts.specs.Alone.{HasMapping, IsAlone, IsSeen, KeepsMapping, only_file, share_of}
+use Rattle.worked_mounts.specs.Alone.{HasMapping, IsAlone, IsSeen, KeepsMapping, share_of}
 use Rattle.worked_mounts.proofs.Going.{Goes, goes-none, goes-then, goes-turn}
 
 -- each seat at a stripe sees on from what it had seen
@@ -48,14 +49,15 @@ given-in p q k sample (Some s) here on given =
 pub given-on : (p q : PassView) (k : ℕ) (sample : Sample) → SeesOn p q → IsGivenAt p k sample → IsGivenAt q k sample
 given-on p q k sample on given = given-in p q k sample (slice_get p.stripes k) refl on given
 
-seen-in : (m : MountView) (p q : PassView) (o : Option Begun) → SeesOn p q → IfSome o (λ (b : Begun). IsSeen m p b.sample) → IfSome o (λ (b : Begun). IsSeen m q b.sample)
-seen-in m p q None on seen = seen
-seen-in m p q (Some b) on seen = record { given = given-on p q (stripe_at m only_file b.sample.extent.block) b.sample on seen.given; lies = seen.lies }
+seen-in : (m : MountView) (file : FileId) (p q : PassView) (o : Option Begun) → SeesOn p q → IfSome o (λ (b : Begun). IsSeen m file p b.sample) → IfSome o (λ (b : Begun). IsSeen m file q b.sample)
+seen-in m file p q None on seen = seen
+seen-in m file p q (Some b) on seen = record { given = given-on p q (stripe_at m file b.sample.extent.block) b.sample on seen.given; lies = seen.lies }
 
 pub mapping-kept : (m : MountView) (p q : PassView) → IsPassOf m q → q.begun ≡ p.begun → SeesOn p q → KeepsMapping m p q
 mapping-kept m p q of same on iomap has = record {
+  cached = has.cached;
   unended = still-open m p q iomap has.unended of same;
-  seen = subst (λ o. IfSome o (λ (b : Begun). IsSeen m q b.sample)) (sym same) (seen-in m p q p.begun on has.seen);
+  seen = subst (λ o. IfSome o (λ (b : Begun). IsSeen m iomap.file q b.sample)) (sym same) (seen-in m iomap.file p q p.begun on has.seen);
 }
 
 pub mapping-turn : {does : RangeView → List Entry → RangeView → RangeView → Entry → Type 0} {m : MountView} {stripe : ℕ} {claims left : ClaimsView} {p q : PassView} → IsPassOf m q → TurnsAt does m stripe claims left p q → KeepsMapping m p q
@@ -79,8 +81,8 @@ came-goes : (p r q : PassView) (came : Result Begun BeginFault) (answer : Result
 came-goes p r q (Ok begun) answer g noted = goes-noted p r q (Some begun) g noted.1
 came-goes p r q (Err fault) answer g noted = subst (Goes p) (sym noted.1) g
 
-pub goes-begin : (m : MountView) (p q : PassView) (pos length : ℕ) (answer : Result Iomap BeginFault) → BeginsAt m p only_file pos length write_flags answer q → Goes p q
-goes-begin m p q pos length answer b = came-goes p b.reached q b.came answer (goes-made m only_file b.made.turns p b.reached b.made.make) b.noted
+pub goes-begin : (m : MountView) (file : FileId) (p q : PassView) (pos length : ℕ) (answer : Result Iomap BeginFault) → BeginsAt m p file pos length write_flags answer q → Goes p q
+goes-begin m file p q pos length answer b = came-goes p b.reached q b.came answer (goes-made m file b.made.turns p b.reached b.made.make) b.noted
 
 pub goes-end : (m : MountView) (p q : PassView) (iomap : Iomap) (written : ℕ) → Ends m p iomap written q → Goes p q
 goes-end m p q iomap written e = goes-noted p e.reached q None (goes-made m iomap.file e.made.turns p e.reached e.made.make) e.pass_is
@@ -145,26 +147,32 @@ module _ (m : MountView) (file : FileId) where
         | inr a ↦ asked-given b most a.sample a.promise begun last.0 q a.answer_is (subst (λ ts. MakesTurns m file ts last.0 q) a.turns_are last.1)
       ]
 
-came-seen : (m : MountView) (b most : ℕ) (p r q : PassView) (turns : List MapTurn) (came : Result Begun BeginFault) (iomap : Iomap) → IsWrite m only_file b most turns came → MakesTurns m only_file turns p r → NotesBegun came r (Ok iomap) q → IsOpen m q iomap → iomap.file ≡ only_file
-    → IfSome q.begun (λ (begun : Begun). IsSeen m q begun.sample)
-came-seen m b most p r q turns (Err fault) iomap w make noted is file = absurd (let e = noted.0 in cc)
-came-seen m b most p r q turns (Ok begun) iomap w make noted is file =
+came-seen : (m : MountView) (file : FileId) (b most : ℕ) (p r q : PassView) (turns : List MapTurn) (came : Result Begun BeginFault) (iomap : Iomap) → IsWrite m file b most turns came → MakesTurns m file turns p r → NotesBegun came r (Ok iomap) q → IsOpen m q iomap → iomap.file ≡ file
+    → IfSome q.begun (λ (begun : Begun). IsSeen m file q begun.sample)
+came-seen m file b most p r q turns (Err fault) iomap w make noted is home = absurd (let e = noted.0 in cc)
+came-seen m file b most p r q turns (Ok begun) iomap w make noted is home =
     let same : iomap ≡ begun.iomap = (let e = noted.0 in cc) in
     let begun_is : q.begun ≡ Some begun = ap (λ (x : PassView). x.begun) noted.1 in
     let tells : Tells m begun = subst (λ o. IfSome o (Tells m)) begun_is is.tells in
-    let home : begun.iomap.file ≡ only_file = ap (λ (x : Iomap). x.file) (sym same) ∙ file in
-    let given : IsGivenAt q (stripe_at m only_file begun.sample.extent.block) begun.sample = subst (λ x. IsGivenAt x (stripe_at m only_file begun.sample.extent.block) begun.sample) (sym noted.1) (write-given m only_file b most turns begun p r w make) in
-    subst (λ o. IfSome o (λ (x : Begun). IsSeen m q x.sample)) (sym begun_is) (record { given = given; lies = subst (λ f. LiesInStripe m f begun.sample.extent) home tells.lies })
+    let of : begun.iomap.file ≡ file = ap (λ (x : Iomap). x.file) (sym same) ∙ home in
+    let given : IsGivenAt q (stripe_at m file begun.sample.extent.block) begun.sample = subst (λ x. IsGivenAt x (stripe_at m file begun.sample.extent.block) begun.sample) (sym noted.1) (write-given m file b most turns begun p r w make) in
+    subst (λ o. IfSome o (λ (x : Begun). IsSeen m file q x.sample)) (sym begun_is) (record { given = given; lies = subst (λ f. LiesInStripe m f begun.sample.extent) of tells.lies })
 
 -- a begin gives the pass its mapping
-pub begin-has : (m : MountView) (p q : PassView) (pos length : ℕ) (iomap : Iomap) → BeginsAt m p only_file pos length write_flags (Ok iomap) q → IsOpen m q iomap → iomap.file ≡ only_file → HasMapping m q iomap
-begin-has m p q pos length iomap b is file = record { unended = is; seen = came-seen m (block_at m pos) (blocks_asked m only_file pos length) p b.reached q b.made.turns b.came iomap b.made.are b.made.make b.noted is file }
+module _ (m : MountView) (file : FileId) (p q : PassView) (pos length : ℕ) (cached : (file_at m file).mode ≡ Cached) where
+  begin-has : (iomap : Iomap) → BeginsAt m p file pos length write_flags (Ok iomap) q → IsOpen m q iomap → iomap.file ≡ file → HasMapping m q iomap
+  begin-has iomap b is home = record {
+    cached = subst (λ f. (file_at m f).mode ≡ Cached) (sym home) cached;
+    unended = is;
+    seen = subst (λ f. IfSome q.begun (λ (begun : Begun). IsSeen m f q begun.sample)) (sym home)
+        (came-seen m file (block_at m pos) (blocks_asked m file pos length) p b.reached q b.made.turns b.came iomap b.made.are b.made.make b.noted is home);
+  }
 
-pub begin-maps : (m : MountView) (p q : PassView) (pos length : ℕ) (answer : Result Iomap BeginFault) → BeginsAt m p only_file pos length write_flags answer q → IfOk answer (λ iomap. IsOpen m q iomap) → IfOk answer (λ iomap. IsBegun only_file pos iomap) → IfOk answer (HasMapping m q)
-begin-maps m p q pos length (Ok iomap) b is begun = begin-has m p q pos length iomap b is begun.file_is
-begin-maps m p q pos length (Err fault) b is begun = tt
+  pub begin-maps : (answer : Result Iomap BeginFault) → BeginsAt m p file pos length write_flags answer q → IfOk answer (λ iomap. IsOpen m q iomap) → IfOk answer (λ iomap. IsBegun file pos iomap) → IfOk answer (HasMapping m q)
+  begin-maps (Ok iomap) b is begun = begin-has iomap b is begun.file_is
+  begin-maps (Err fault) b is begun = tt
 
 -- the sample of the mapping was given to the pass
-pub seen-is : (m : MountView) (p : PassView) (sample : Sample) (o : Option Begun) → IfSome o (λ (b : Begun). IsSeen m p b.sample) → sample_in o ≡ Some sample → IsSeen m p sample
-seen-is m p sample None seen is = absurd (cc)
-seen-is m p sample (Some b) seen is = let e : b.sample ≡ sample = cc in subst (IsSeen m p) e seen
+pub seen-is : (m : MountView) (file : FileId) (p : PassView) (sample : Sample) (o : Option Begun) → IfSome o (λ (b : Begun). IsSeen m file p b.sample) → sample_in o ≡ Some sample → IsSeen m file p sample
+seen-is m file p sample None seen is = absurd (cc)
+seen-is m file p sample (Some b) seen is = let e : b.sample ≡ sample = cc in subst (IsSeen m file p) e seen

@@ -6,6 +6,7 @@ use Rattle.std.proofs.lemmas.List.{length-replicate}
 use Rattle.std.proofs.lemmas.List.Elements.{All-cons, All-head, All-map, All-nil, All-push, All-set, All-tail}
 use Rattle.iob_base.specs.DeviceBlock.{DeviceBlock, device_block, fresh_blocks}
 use Rattle.iob_base.specs.Layout.{Layout, layout}
+use Rattle.iob_base.specs.declared.stamp.Mode.TheVariants.{Cached}
 use Rattle.io_model.specs.declared.file.Extent.{Extent}
 use Rattle.io_model.specs.declared.file.FileSpec.{FileSpec}
 use Rattle.file_stripes.specs.Files.{IsFile, numbers_of_file, numbers_of_files}
@@ -26,6 +27,7 @@ use Rattle.mini_fs.specs.Wholes.{HasWhole}
 use Rattle.mini_fs.proofs.Layouts.{stripe-within}
 use Rattle.worked_mounts.specs.Alone.{IsAlone, only_file, share_of}
 use Rattle.worked_mounts.specs.Begins.{IsDevice, MayBegin, file_with, rise}
+use Rattle.worked_mounts.specs.Others.{HasOther}
 
 -- numbers that go up stand once, and below the end
 both : (a b : Bool) → IsTrue (a && b) → IsTrue a × IsTrue b
@@ -130,11 +132,8 @@ none-seen : {A B : Type 0} (f : A → B) (xs : List A) → map f xs ≡ [] → x
 none-seen f [] e = refl
 none-seen f (x ∷ xs) e = absurd (cc)
 
-module _ (cookie blocks : ℕ) (size : Option ℕ) (extents : List Extent) (sectors : List DeviceBlock) (m : MountView) (p : PassView) (some : 0 < blocks) (s : Started (layout 16 4) cookie sectors (file_with blocks size extents ∷ []) m p) where
-  abbrev place : FilePlace
-  place = place_of (file_with blocks size extents) 0 0
-
-  at-first : file_at m only_file ≡ place
+module _ (cookie : ℕ) (first : FileSpec) (rest : List FileSpec) (sectors : List DeviceBlock) (m : MountView) (p : PassView) (some : 0 < first.blocks) (s : Started (layout 16 4) cookie sectors (first ∷ rest) m p) where
+  at-first : file_at m only_file ≡ place_of first 0 0
   at-first = ap (λ fs. get_or fs 0 no_file) s.files_are
 
   pub start-share : IsLaidOut m → share_of p ≡ 2 ^ 63
@@ -142,22 +141,31 @@ module _ (cookie blocks : ℕ) (size : Option ℕ) (extents : List Extent) (sect
       let has : 0 < length m.stripes = (let h = stripe-within m only_file 0 laid (subst (λ (f : FilePlace). 0 < f.blocks) (sym at-first) some) in omega (arith, h)) in
       ap (λ ss. share_in (slice_get ss 0)) s.stripe_seats ∙ first-share m.stripes has
 
-  pub start-alone : IsLaidOut m → IsPassOf m p → IsAlone m p
-  start-alone laid of =
+  pub start-alone : first.mode ≡ Cached → IsLaidOut m → IsPassOf m p → IsAlone m p
+  start-alone cached laid of =
       let n = share_of p in
       let whole : n ≡ 2 ^ 63 = start-share laid in
       record {
         geometry = s.geometry_is;
         exists = subst (λ fs. 0 < length fs) (sym s.files_are) (omega arith);
-        cached = ap (λ (f : FilePlace). f.mode) at-first;
+        cached = ap (λ (f : FilePlace). f.mode) at-first ∙ cached;
         of = of;
         shares = subst (All (λ (x : SeatView Entry). x.share ≡ n)) (sym s.stripe_seats) (All-map (λ (x : SeatView Entry). x.share ≡ n) is_first_at m.stripes (λ k d below. sym whole));
         size_shares = subst (All (λ (x : SizeSeat). x.seat.share ≡ n)) (sym s.size_seats) (All-map (λ (x : SizeSeat). x.seat.share ≡ n) first_size_seat m.sizes (λ k d below. sym whole));
         home = s.home;
       }
 
+-- a mount of one file
+module _ (cookie blocks : ℕ) (size : Option ℕ) (extents : List Extent) (sectors : List DeviceBlock) (m : MountView) (p : PassView) (s : Started (layout 16 4) cookie sectors (file_with blocks size extents ∷ []) m p) where
   pub start-none : size ≡ None → m.sizes ≡ []
   start-none none = none-seen (λ (c : CellView SizesView). c.opening) m.sizes (s.sizes ∙ ap (λ o. first_sizes 16 (file_with blocks o extents ∷ [])) none)
 
   pub start-one : length m.files ≡ 1
   start-one = ap length s.files_are
+
+-- a mount of two files
+pub start-other : (cookie : ℕ) (first second : FileSpec) (sectors : List DeviceBlock) (m : MountView) (p : PassView) → second.mode ≡ Cached → Started (layout 16 4) cookie sectors (first ∷ second ∷ []) m p → HasOther m
+start-other cookie first second sectors m p cached s = record {
+  exists = subst (λ fs. 1 < length fs) (sym s.files_are) (omega arith);
+  cached = ap (λ fs. (get_or fs 1 no_file).mode) s.files_are ∙ cached;
+}

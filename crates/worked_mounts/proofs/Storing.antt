@@ -2,6 +2,8 @@
 use Rattle.std.proofs.Common.{◌≡◌, ℕ, ◌+◌, ◌-◌, ◌*◌, ◌<◌, ◌≤◌, Some, List, length, refl, sym, ap, ◌∙◌, subst, arith}
 use Rattle.std.specs.Prelude.{◌/◌, ◌%◌, false, IsSomeAnd, slice_get, sum}
 use Rattle.iob_base.specs.Layout.{Layout, layout}
+use Rattle.iob_base.specs.declared.stamp.FileId.{FileId}
+use Rattle.iob_base.specs.declared.stamp.Mode.TheVariants.{Cached}
 use Rattle.iov_iter.specs.IovView.{IovView}
 use Rattle.iov_iter.specs.Kept.{IsIov}
 use Rattle.turn_cell.specs.Views.{CellView, SeatView}
@@ -19,7 +21,7 @@ use Rattle.mini_fs.specs.PassView.{PassView, claims_of}
 use Rattle.mini_fs.specs.Turns.{ReadyAt, block_at}
 use Rattle.mini_fs.proofs.Layouts.{stripe-sizes}
 use Rattle.mini_fs.proofs.Ready.{run-lies, stripe-here}
-use Rattle.worked_mounts.specs.Alone.{IsAlone, IsSeen, only_file}
+use Rattle.worked_mounts.specs.Alone.{IsAlone, IsSeen}
 use Rattle.worked_mounts.specs.Buffers.{IsBuffer}
 
 -- blocks of one extent in one stripe
@@ -34,7 +36,7 @@ in-stripe from to some folio = omega arith
 same-stripe : (f b n k : ℕ) → b ≤ k → k < b + n → b % 64 + n ≤ 64 → f + b / 64 ≡ f + k / 64
 same-stripe f b n k low high stripe = omega arith
 
-module _ (m : MountView) (p : PassView) (seen : Sample) (from to : ℕ) (iov : IovView) (laid : IsLaidOut m) (alone : IsAlone m p) (known : IsSeen m p seen) (some : from < to) (folio : from / 16 / 4 ≡ (to - 1) / 16 / 4) (low : seen.extent.block ≤ from / 16) (high : (to - 1) / 16 < seen.extent.block + seen.extent.length) where
+module _ (m : MountView) (file : FileId) (cached : (file_at m file).mode ≡ Cached) (p : PassView) (seen : Sample) (from to : ℕ) (iov : IovView) (laid : IsLaidOut m) (alone : IsAlone m p) (known : IsSeen m file p seen) (some : from < to) (folio : from / 16 / 4 ≡ (to - 1) / 16 / 4) (low : seen.extent.block ≤ from / 16) (high : (to - 1) / 16 < seen.extent.block + seen.extent.length) where
   size : m.geometry.block_size ≡ 16
   size = ap (λ (g : Layout). g.block_size) alone.geometry
 
@@ -42,22 +44,22 @@ module _ (m : MountView) (p : PassView) (seen : Sample) (from to : ℕ) (iov : I
   met = met-within from to seen.extent.block seen.extent.length some low high
 
   -- the first block is one of the file
-  pub store-block : HasBlock m only_file (block_at m from)
-  store-block = subst (λ n. from / n < (file_at m only_file).blocks) (sym size) (let w = known.lies.within in omega (arith, w, met.0, met.1))
+  pub store-block : HasBlock m file (block_at m from)
+  store-block = subst (λ n. from / n < (file_at m file).blocks) (sym size) (let w = known.lies.within in omega (arith, w, met.0, met.1))
 
-  here-stripe : stripe_at m only_file seen.extent.block ≡ stripe_at m only_file (block_at m from)
-  here-stripe = same-stripe (file_at m only_file).stripe seen.extent.block seen.extent.length (from / 16) low (omega (arith, met.0, met.1)) known.lies.stripe ∙ ap (λ n. stripe_at m only_file (from / n)) (sym size)
+  here-stripe : stripe_at m file seen.extent.block ≡ stripe_at m file (block_at m from)
+  here-stripe = same-stripe (file_at m file).stripe seen.extent.block seen.extent.length (from / 16) low (omega (arith, met.0, met.1)) known.lies.stripe ∙ ap (λ n. stripe_at m file (from / n)) (sym size)
 
-  pub store-ready : is_hole seen.extent.kind ≡ false → HasNext iov (to - from) → ReadyAt (λ opening entries _. CanStore opening seen from to iov × WasGiven seen entries) m p (stripe_at m only_file (block_at m from)) (claims_of p)
+  pub store-ready : is_hole seen.extent.kind ≡ false → HasNext iov (to - from) → ReadyAt (λ opening entries _. CanStore opening seen from to iov × WasGiven seen entries) m p (stripe_at m file (block_at m from)) (claims_of p)
   store-ready space room cell seat stand =
-      let sizes : cell.opening.geometry ≡ layout 16 4 = stripe-sizes m (stripe_at m only_file (block_at m from)) cell laid stand.cell_is ∙ alone.geometry in
-      let s = stripe-here m only_file laid (block_at m from) cell store-block stand.cell_is in
-      let there : slice_get m.stripes (stripe_at m only_file (from / 16)) ≡ Some cell = ap (λ n. slice_get m.stripes (stripe_at m only_file (from / n))) (sym size) ∙ stand.cell_is in
-      let lies : LiesAt cell.opening (from / 16) (blocks_met 16 from to) = run-lies m only_file laid (from / 16) (blocks_met 16 from to) met.0 (let w = known.lies.within in omega (arith, w, met.1)) (in-stripe from to some folio) cell there in
-      let given : IsSomeAnd (slice_get p.stripes (stripe_at m only_file (block_at m from))) (λ (x : SeatView Entry). WasGiven seen x.seen) = subst (λ k. IsGivenAt p k seen) here-stripe known.given in (
+      let sizes : cell.opening.geometry ≡ layout 16 4 = stripe-sizes m (stripe_at m file (block_at m from)) cell laid stand.cell_is ∙ alone.geometry in
+      let s = stripe-here m file laid (block_at m from) cell store-block stand.cell_is in
+      let there : slice_get m.stripes (stripe_at m file (from / 16)) ≡ Some cell = ap (λ n. slice_get m.stripes (stripe_at m file (from / n))) (sym size) ∙ stand.cell_is in
+      let lies : LiesAt cell.opening (from / 16) (blocks_met 16 from to) = run-lies m file laid (from / 16) (blocks_met 16 from to) met.0 (let w = known.lies.within in omega (arith, w, met.1)) (in-stripe from to some folio) cell there in
+      let given : IsSomeAnd (slice_get p.stripes (stripe_at m file (block_at m from))) (λ (x : SeatView Entry). WasGiven seen x.seen) = subst (λ k. IsGivenAt p k seen) here-stripe known.given in (
         record {
           bytes = record {
-            cached = s.mode ∙ alone.cached;
+            cached = s.mode ∙ cached;
             some = some;
             blocks = subst (λ (g : Layout). LiesAt cell.opening (from / g.block_size) (blocks_met g.block_size from to)) (sym sizes) lies;
             folio = subst (λ (g : Layout). from / g.block_size / g.folio_blocks ≡ (to - 1) / g.block_size / g.folio_blocks) (sym sizes) folio;

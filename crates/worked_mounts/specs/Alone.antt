@@ -30,15 +30,16 @@ pub record IsAlone (m : MountView) (p : PassView) : Type 0 where
   pub size_shares : All (λ s. s.seat.share ≡ share_of p) p.sizes
   pub home : HoldsNothing p
 
--- A sample of blocks of the file that lie in one stripe was given to the pass
-pub record IsSeen (m : MountView) (p : PassView) (seen : Sample) : Type 0 where
-  pub given : IsGivenAt p (stripe_at m only_file seen.extent.block) seen
-  pub lies : LiesInStripe m only_file seen.extent
+-- A sample of blocks of a file that lie in one stripe was given to the pass
+pub record IsSeen (m : MountView) (file : FileId) (p : PassView) (seen : Sample) : Type 0 where
+  pub given : IsGivenAt p (stripe_at m file seen.extent.block) seen
+  pub lies : LiesInStripe m file seen.extent
 
--- The pass has this mapping of the file open, and was given the sample on which it rests
+-- The pass has this mapping of a cached file open, and was given the sample on which it rests
 pub record HasMapping (m : MountView) (p : PassView) (iomap : Iomap) : Type 0 where
+  pub cached : (file_at m iomap.file).mode ≡ Cached
   pub unended : IsOpen m p iomap
-  pub seen : IfSome p.begun (λ (begun : Begun). IsSeen m p begun.sample)
+  pub seen : IfSome p.begun (λ (begun : Begun). IsSeen m iomap.file p begun.sample)
 
 -- every mapping that the first pass has, the second one has
 abbrev pub KeepsMapping : MountView → PassView → PassView → Type 0

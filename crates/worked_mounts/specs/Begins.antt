@@ -25,9 +25,10 @@ pub record MayBegin (device blocks : ℕ) (size : Option ℕ) (cookie : ℕ) (ex
   pub sized : IfSome size (λ n. n ≤ blocks * 16)
   pub cookie_is : cookie ≤ WORN
 
--- A device of so many blocks, each of 16 bytes, may have these files, whose device numbers go up from one to the next
+-- A device of so many blocks, each of 16 bytes, may have these cached files, whose device numbers go up from one to the next
 pub record MayHold (device : ℕ) (files : List FileSpec) : Type 0 where
   pub each : All IsFile files
+  pub cached : All (λ f. f.mode ≡ Cached) files
   pub numbers : IsTrue (rise 0 device (numbers_of_files files))
   pub sized : All (MayHaveSize 16) files
 

@@ -2,7 +2,9 @@
 use Rattle.std.specs.Prelude.{◌≡◌, ℕ, ◌+◌, List, map, slice_set}
 use Rattle.turn_cell.specs.Views.{SeatView}
 use Rattle.range_core.specs.declared.entry.Entry.{Entry}
+use Rattle.mount_parts.specs.MountView.{MountView, stripe_at}
 use Rattle.mini_fs.specs.PassView.{PassView, SizeSeat, share_at}
+use Rattle.worked_mounts.specs.Alone.{only_file}
 
 abbrev pub stripe_share : SeatView Entry → ℕ
 stripe_share s = s.share
@@ -23,3 +25,7 @@ pub record GetsShare (stripe : ℕ) (p q : PassView) : Type 0 where
   pub sizes : size_shares q ≡ size_shares p
   pub locks : q.locks ≡ p.locks
   pub spare : q.spare ≡ p.spare
+
+-- the share of a pass at the stripe of the file's first block
+abbrev pub first_share : MountView → PassView → ℕ
+first_share m p = share_at p (stripe_at m only_file 0)

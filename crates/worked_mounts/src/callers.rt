@@ -6,7 +6,7 @@ use crate::mount_ground::started;
 use crate::mount_passes::{join, join_all, split, split_all};
 use crate::mount_texts::{block_text, extents_text};
 use crate::mount_writes::write_through;
-use crate::single::{Begin, ended, file_left};
+use crate::single::{Begin, FILE, ended, file_left};
 use fault_device::{Lane, Listed};
 use io_model::{Extent, FileEnd, Kind};
 use mini_fs::{Mount, Pass};
@@ -39,8 +39,8 @@ const UNWRITTEN: [Extent; 2] = [
     },
 ];
 
-// A device that lets no transfer fail.
-fn lane(alloc: Global, number: u32) -> Result<Lane, AllocError> {
+/// A device that lets no transfer fail, until one is armed.
+pub(crate) fn lane(alloc: Global, number: u32) -> Result<Lane, AllocError> {
     Ok(Lane::new(number, Box::new(alloc, Listed::new(alloc))?))
 }
 
@@ -60,7 +60,7 @@ fn caller<R: Abort + Wait>(
     ensures share { IfOk result (λ after. share_of after ≡ share_of pass) }
 {
     let mut lane = lane(mount.allocator(), number)?;
-    let done = write_through(rt, mount, &mut pass, &mut lane, call, block, bytes)?;
+    let done = write_through(rt, mount, &mut pass, &mut lane, FILE, call, block, bytes)?;
     assert_eq!(rt; (done.lane, done.landed, done.failed), (number, 1, false));
     Ok(pass)
 }
@@ -100,7 +100,8 @@ fn write_by_two<R: Abort + Threads + Wait + Sync>(rt: &R, alloc: Global) -> Resu
     file_left(ended(mount, pass)?).ok_or_else(|| Fail::from("there is a file"))
 }
 
-fn expect_block(
+/// The block of this number, and its journal, are as this text.
+pub(crate) fn expect_block(
     rt: &impl Abort,
     alloc: Global,
     end: &FileEnd,

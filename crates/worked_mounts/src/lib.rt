@@ -8,6 +8,10 @@ mod borders;
 #[cfg(test)]
 mod callers;
 #[cfg(test)]
+mod full_queue;
+#[cfg(test)]
+mod mount_bios;
+#[cfg(test)]
 mod mount_ground;
 #[cfg(test)]
 mod mount_maps;
@@ -26,5 +30,7 @@ mod mount_writes;
 #[cfg(test)]
 mod mounts;
 mod single;
+#[cfg(test)]
+mod two_files;
 
 pub use single::{Begin, FILE, ended, file_left, started_on};

@@ -1,9 +1,11 @@
-//! Mappings of the one file of a mount.
+//! Mappings of a cached file of a mount.
 ghost use Rattle.std.specs.Prelude.{◌≡◌, ◌*◌, ◌<◌, ◌≤◌, IfOk};
+ghost use Rattle.iob_base.specs.declared.stamp.Mode.TheVariants.{Cached};
+ghost use Rattle.mount_parts.specs.MountView.{HasFile, file_at};
 ghost use Rattle.mini_fs.specs.Mappings.{file_end};
-ghost use Rattle.worked_mounts.specs.Alone.{HasMapping, IsAlone, only_file, share_of};
+ghost use Rattle.worked_mounts.specs.Alone.{HasMapping, IsAlone, share_of};
 
-use crate::single::FILE;
+use iob_base::FileId;
 use iomap_core::{BeginFault, Flags, Iomap, IomapOps};
 use mini_fs::{Mount, Pass};
 use std::process::Abort;
@@ -20,11 +22,12 @@ const WRITE: Flags = Flags {
 };
 
 // A byte of the file.
-fn expect_byte(rt: &impl Abort, mount: &Mount, pass: &Pass, pos: u64)
-    requires { IsAlone mount.now pass.now }
-    ensures { pos < file_end mount.now only_file }
+fn expect_byte(rt: &impl Abort, mount: &Mount, pass: &Pass, file: FileId, pos: u64)
+    requires alone { IsAlone mount.now pass.now }
+    requires exists { HasFile mount.now file }
+    ensures { pos < file_end mount.now file }
 {
-    assert!(rt; pos / 16 < mount.blocks(FILE), "a byte of the file");
+    assert!(rt; pos / 16 < mount.blocks(file), "a byte of the file");
 }
 
 /// Begins a mapping to write bytes of the file.
@@ -32,17 +35,20 @@ pub(crate) fn begin<R: Abort + Wait>(
     rt: &R,
     mount: &Mount,
     pass: &mut Pass,
+    file: FileId,
     pos: u64,
     length: u64,
 ) -> Result<Iomap, BeginFault>
-    requires { IsAlone mount.now pass.old }
+    requires alone { IsAlone mount.now pass.old }
+    requires exists { HasFile mount.now file }
+    requires cached { (file_at mount.now file).mode ≡ Cached }
     ensures alone { IsAlone mount.now pass.new }
     ensures share { share_of pass.new ≡ share_of pass.old }
     ensures mapping { IfOk result (HasMapping mount.now pass.new) }
 {
-    expect_byte(rt, mount, pass, pos);
+    expect_byte(rt, mount, pass, file, pos);
     assert!(rt; 1 <= length, "some bytes");
-    mount.begin(rt, pass, FILE, pos, length, WRITE)
+    mount.begin(rt, pass, file, pos, length, WRITE)
 }
 
 /// Ends the mapping, of which so many bytes were written.

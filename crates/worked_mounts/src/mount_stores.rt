@@ -1,12 +1,13 @@
 //! Bytes of a caller's memory are laid over blocks of a mapping.
 ghost use Rattle.std.specs.Prelude.{◌≡◌, ◌+◌, ◌-◌, ◌/◌, ◌<◌, ◌≤◌, false, IfOk, length};
+ghost use Rattle.iob_base.specs.declared.stamp.Mode.TheVariants.{Cached};
+ghost use Rattle.mount_parts.specs.MountView.{file_at};
 ghost use Rattle.range_core.specs.Kinds.{is_hole};
 ghost use Rattle.worked_mounts.specs.Alone.{HasMapping, IsAlone, IsSeen, KeepsMapping, share_of};
 ghost use Rattle.worked_mounts.specs.Buffers.{IsBuffer};
 
-use crate::single::FILE;
 use io_model::{Extent, Kind};
-use iob_base::Tag;
+use iob_base::{FileId, Tag};
 use iomap_core::Iomap;
 use iov_iter::IovIter;
 use mini_fs::{Mount, Pass};
@@ -58,6 +59,7 @@ fn store_turn<R: Abort + Wait>(
     rt: &R,
     mount: &Mount,
     pass: &mut Pass,
+    file: FileId,
     by: Tag,
     seen: Sample,
     from: u64,
@@ -65,7 +67,8 @@ fn store_turn<R: Abort + Wait>(
     iov: &mut IovIter,
 ) -> Result<(), EventFault>
     requires alone { IsAlone mount.now pass.old }
-    requires seen { IsSeen mount.now pass.old seen }
+    requires cached { (file_at mount.now file).mode ≡ Cached }
+    requires seen { IsSeen mount.now file pass.old seen }
     requires start { iov.old.place ≡ 0 }
     requires buffer { IsBuffer iov.old }
     ensures alone { IsAlone mount.now pass.new }
@@ -76,7 +79,7 @@ fn store_turn<R: Abort + Wait>(
     expect_covered(rt, seen.extent, from, to);
     let _ = iov.count();
     mount.is_laid_out();
-    mount.store(rt, pass, FILE, by, seen, from, to, iov)
+    mount.store(rt, pass, file, by, seen, from, to, iov)
 }
 
 /// Lays bytes over blocks of the mapping, from one place of the file on, for the call of this number.
@@ -104,5 +107,6 @@ pub(crate) fn store<R: Abort + Wait>(
     };
     let mut iov = buffer(mount.allocator(), bytes)?;
     let to = from + bytes.len() as u64;
-    Ok(store_turn(rt, mount, pass, by, seen, from, to, &mut iov))
+    let file = iomap.file;
+    Ok(store_turn(rt, mount, pass, file, by, seen, from, to, &mut iov))
 }

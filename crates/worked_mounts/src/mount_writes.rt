@@ -1,7 +1,9 @@
-//! Bytes are laid over a block of the file, and written to its sector by a bio of their own.
+//! Bytes are laid over a block of a file, and written to its sector by a bio of their own.
 ghost use Rattle.std.specs.Prelude.{◌≡◌, ◌<◌, IfOk, Ok, OnOk};
 ghost use Rattle.bio_pages.specs.Running.{IsRun};
 ghost use Rattle.fault_device.specs.Transfer.{CanTransfer};
+ghost use Rattle.iob_base.specs.declared.stamp.Mode.TheVariants.{Cached};
+ghost use Rattle.mount_parts.specs.MountView.{HasFile, file_at};
 ghost use Rattle.mini_fs.specs.PassView.{IsPassOf, with_bios};
 ghost use Rattle.mini_fs.specs.Tickets.{KeepsTickets};
 ghost use Rattle.worked_mounts.specs.Alone.{IsAlone, share_of};
@@ -9,10 +11,9 @@ ghost use Rattle.worked_mounts.specs.Alone.{IsAlone, share_of};
 use crate::mount_maps::{begin, end};
 use crate::mount_stores::store;
 use crate::mount_turns::expect_run;
-use crate::single::FILE;
 use bio_pages::Bio;
 use fault_device::{Done, Lane};
-use iob_base::{Op, Parts};
+use iob_base::{FileId, Op, Parts};
 use iomap_core::{BeginFault, Iomap};
 use mini_fs::{Mount, Pass, Ticket};
 use range_core::{LendRefused, Lent};
@@ -73,18 +74,20 @@ pub(crate) fn write_back<R: Abort + Wait>(
     mount: &Mount,
     pass: &mut Pass,
     lane: &mut Lane,
+    file: FileId,
     block: u64,
 ) -> Result<Done, AllocError>
     requires alone { IsAlone mount.now pass.old }
+    requires exists { HasFile mount.now file }
     requires share { 1 < share_of pass.old }
     ensures alone { OnOk result (IsAlone mount.now pass.new) }
     ensures share { OnOk result (share_of pass.new ≡ share_of pass.old) }
 {
     let parts = Parts::new(mount.allocator())?;
-    expect_run(rt, mount, block, 1);
+    expect_run(rt, mount, file, block, 1);
     mount.is_laid_out();
-    let ticket = mount.ticket(pass, FILE, block);
-    let (ticket, answer) = mount.lend_writeback(rt, pass, FILE, ticket, block, 1, parts);
+    let ticket = mount.ticket(pass, file, block);
+    let (ticket, answer) = mount.lend_writeback(rt, pass, file, ticket, block, 1, parts);
     let Lent {
         ticket: number,
         block,
@@ -109,32 +112,35 @@ pub(crate) fn write_back<R: Abort + Wait>(
         block,
         parts,
     };
-    let (ticket, _) = mount.written_back(rt, pass, FILE, ticket, back, done);
+    let (ticket, _) = mount.written_back(rt, pass, file, ticket, back, done);
     mount.close_ticket(pass, ticket);
     Ok(done)
 }
 
-/// Lays bytes over a block of the file for the call of this number, and writes it to its sector. Want of memory is the only
+/// Lays bytes over a block of a cached file for the call of this number, and writes it to its sector. Want of memory is the only
 /// error.
 pub(crate) fn write_through<R: Abort + Wait>(
     rt: &R,
     mount: &Mount,
     pass: &mut Pass,
     lane: &mut Lane,
+    file: FileId,
     call: u32,
     block: u64,
     bytes: &[u8],
 ) -> Result<Done, AllocError>
     requires alone { IsAlone mount.now pass.old }
+    requires exists { HasFile mount.now file }
+    requires cached { (file_at mount.now file).mode ≡ Cached }
     requires share { 1 < share_of pass.old }
     ensures alone { OnOk result (IsAlone mount.now pass.new) }
     ensures share { OnOk result (share_of pass.new ≡ share_of pass.old) }
 {
     assert!(rt; block < 1 << 16, "a block of the file");
     let from = block * 16;
-    let iomap = expect_mapping(rt, begin(rt, mount, pass, from, 16));
+    let iomap = expect_mapping(rt, begin(rt, mount, pass, file, from, 16));
     let stored = store(rt, mount, pass, call, &iomap, from, bytes)?;
     assert!(rt; stored.is_ok(), "the bytes are laid over the block");
     end(rt, mount, pass, iomap, 16);
-    write_back(rt, mount, pass, lane, block)
+    write_back(rt, mount, pass, lane, file, block)
 }

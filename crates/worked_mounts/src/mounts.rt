@@ -4,7 +4,7 @@ use crate::mount_maps::{begin, end};
 use crate::mount_stores::store;
 use crate::mount_texts::{block_text, extents_text, mapping_text, sample_text};
 use crate::mount_turns::{look, place};
-use crate::single::{Begin, ended, file_left};
+use crate::single::{Begin, FILE, ended, file_left};
 use io_model::FileEnd;
 use iob_base::WORN;
 use iomap_core::BeginFault;
@@ -53,7 +53,7 @@ fn expect_left(
 fn go_stale<R: Abort + Wait>(rt: &R, alloc: Global) -> Result<FileEnd, Fail> {
     let (mount, mut pass) = started(alloc, HOLES, &[])?;
     let pass_mut = &mut pass;
-    let iomap = begin(rt, &mount, pass_mut, 0, 16)?;
+    let iomap = begin(rt, &mount, pass_mut, FILE, 0, 16)?;
     assert_eq!(rt;
         mapping_text(alloc, &iomap)?.as_str(),
         "cookie 1, 0+16 delalloc, new"
@@ -83,7 +83,7 @@ fn stale_mapping_is_refused(rt: HostRuntime) -> Result<(), Fail> {
 fn ask_worn<R: Abort + Wait>(rt: &R, alloc: Global) -> Result<FileEnd, Fail> {
     let (mount, mut pass) = started(alloc, WORN_HOLE, &[])?;
     let pass_mut = &mut pass;
-    let begun = begin(rt, &mount, pass_mut, 0, 16);
+    let begun = begin(rt, &mount, pass_mut, FILE, 0, 16);
     assert!(rt; matches!(begun, Err(BeginFault::Worn { cookie: WORN })));
     let placed = place(rt, &mount, pass_mut, 0, 1);
     assert!(rt; matches!(placed, Err(EventFault::Worn { cookie: WORN })));

@@ -7,12 +7,12 @@ use Rattle.worked_mounts.proofs.mount_stores.store_turn.Goals as goal
 pub store-requires-clause-block : goal.store-requires-clause-block
 store-requires-clause-block g c =
     let e = c.expect_covered.ensures in
-    store-block c.args.mount.now c.args.pass.now c.args.seen c.args.from c.args.to c.args.iov.now c.is_laid_out.ensures c.requires.alone c.requires.seen c.expect_folio.ensures.some c.expect_folio.ensures.folio e.low e.high
+    store-block c.args.mount.now c.args.file c.requires.cached c.args.pass.now c.args.seen c.args.from c.args.to c.args.iov.now c.is_laid_out.ensures c.requires.alone c.requires.seen c.expect_folio.ensures.some c.expect_folio.ensures.folio e.low e.high
 
 pub store-requires-clause-ready : goal.store-requires-clause-ready
 store-requires-clause-ready g c =
     let e = c.expect_covered.ensures in
-    store-ready c.args.mount.now c.args.pass.now c.args.seen c.args.from c.args.to c.args.iov.now c.is_laid_out.ensures c.requires.alone c.requires.seen c.expect_folio.ensures.some c.expect_folio.ensures.folio e.low e.high e.space
+    store-ready c.args.mount.now c.args.file c.requires.cached c.args.pass.now c.args.seen c.args.from c.args.to c.args.iov.now c.is_laid_out.ensures c.requires.alone c.requires.seen c.expect_folio.ensures.some c.expect_folio.ensures.folio e.low e.high e.space
     (buffer-next c.args.iov.now c.args.from c.args.to c.requires.buffer c.requires.start c.count.ensures.valid c.expect_folio.ensures.some c.expect_folio.ensures.folio)
 
 pub returns-clause-alone : goal.returns-clause-alone

@@ -1,4 +1,4 @@
-use Rattle.std.proofs.Common.{◌≡◌, ◌++◌, List, [], ◌∷◌, length, sym, ap, ◌∙◌, subst}
+use Rattle.std.proofs.Common.{◌≡◌, ◌++◌, List, [], ◌∷◌, length, refl, sym, ap, ◌∙◌, subst}
 use Rattle.io_model.specs.declared.file.FileSpec.{FileSpec}
 use Rattle.iob_base.specs.Layout.{layout}
 use Rattle.file_stripes.specs.Files.{numbers_of_files}
@@ -25,7 +25,7 @@ returns-clause-alone c =
     let file = file_with begin.blocks begin.size c.args.extents.now in
     let files : c.push_reserved.new.self.items ≡ file ∷ [] = c.push_reserved.ensures.items ∙ (λ j. c.in_ok-files.ensures.items j ++ c.in_ok-file.ensures j ∷ []) in
     let began : Started (layout 16 4) begin.cookie sectors (file ∷ []) m p = subst (λ g. Started g begin.cookie sectors (file ∷ []) m p) c.requires.geometry (subst (λ fs. Started c.args.geometry begin.cookie sectors fs m p) files c.in_ok-mount.ensures.started) in
-    start-alone begin.cookie begin.blocks begin.size c.args.extents.now sectors m p c.requires.may.file.some began c.is_laid_out.ensures c.in_ok-mount.ensures.of
+    start-alone begin.cookie file [] sectors m p c.requires.may.file.some began refl c.is_laid_out.ensures c.in_ok-mount.ensures.of
 
 pub returns-clause-whole : goal.returns-clause-whole
 returns-clause-whole c =
@@ -36,7 +36,7 @@ returns-clause-whole c =
     let file = file_with begin.blocks begin.size c.args.extents.now in
     let files : c.push_reserved.new.self.items ≡ file ∷ [] = c.push_reserved.ensures.items ∙ (λ j. c.in_ok-files.ensures.items j ++ c.in_ok-file.ensures j ∷ []) in
     let began : Started (layout 16 4) begin.cookie sectors (file ∷ []) m p = subst (λ g. Started g begin.cookie sectors (file ∷ []) m p) c.requires.geometry (subst (λ fs. Started c.args.geometry begin.cookie sectors fs m p) files c.in_ok-mount.ensures.started) in
-    start-share begin.cookie begin.blocks begin.size c.args.extents.now sectors m p c.requires.may.file.some began c.is_laid_out.ensures
+    start-share begin.cookie file [] sectors m p c.requires.may.file.some began c.is_laid_out.ensures
 
 pub returns-clause-one : goal.returns-clause-one
 returns-clause-one c =
@@ -47,7 +47,7 @@ returns-clause-one c =
     let file = file_with begin.blocks begin.size c.args.extents.now in
     let files : c.push_reserved.new.self.items ≡ file ∷ [] = c.push_reserved.ensures.items ∙ (λ j. c.in_ok-files.ensures.items j ++ c.in_ok-file.ensures j ∷ []) in
     let began : Started (layout 16 4) begin.cookie sectors (file ∷ []) m p = subst (λ g. Started g begin.cookie sectors (file ∷ []) m p) c.requires.geometry (subst (λ fs. Started c.args.geometry begin.cookie sectors fs m p) files c.in_ok-mount.ensures.started) in
-    start-one begin.cookie begin.blocks begin.size c.args.extents.now sectors m p c.requires.may.file.some began
+    start-one begin.cookie begin.blocks begin.size c.args.extents.now sectors m p began
 
 pub returns-clause-spare : goal.returns-clause-spare
 returns-clause-spare c =
@@ -69,4 +69,4 @@ returns-clause-sizes c =
     let file = file_with begin.blocks begin.size c.args.extents.now in
     let files : c.push_reserved.new.self.items ≡ file ∷ [] = c.push_reserved.ensures.items ∙ (λ j. c.in_ok-files.ensures.items j ++ c.in_ok-file.ensures j ∷ []) in
     let began : Started (layout 16 4) begin.cookie sectors (file ∷ []) m p = subst (λ g. Started g begin.cookie sectors (file ∷ []) m p) c.requires.geometry (subst (λ fs. Started c.args.geometry begin.cookie sectors fs m p) files c.in_ok-mount.ensures.started) in
-    λ none. start-none begin.cookie begin.blocks begin.size c.args.extents.now sectors m p c.requires.may.file.some began none
+    λ none. start-none begin.cookie begin.blocks begin.size c.args.extents.now sectors m p began none
