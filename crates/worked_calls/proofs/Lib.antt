@@ -1,3 +1,4 @@
+mod GateCrossing
 mod Standing
 mod Telling
 mod Trying

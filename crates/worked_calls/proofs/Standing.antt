@@ -16,6 +16,7 @@ use Rattle.mini_fs.specs.Splits.{IsHome}
 use Rattle.mini_fs.proofs.PassActs.{acted-size}
 use Rattle.mini_fs.proofs.Through.{all-from}
 use Rattle.worked_mounts.specs.Alone.{IsAlone, only_file, share_of}
+use Rattle.worked_mounts.proofs.Going.{Goes, alone-goes, share-goes}
 use Rattle.worked_mounts.proofs.Lending.{share-here}
 use Rattle.writeback_ioend.specs.Flushes.{LeavesCall}
 use Rattle.worked_calls.specs.Stands.{IsReady, Stays}
@@ -122,3 +123,12 @@ module _ (m : MountView) (p : PassView) (laid : IsLaidOut m) (ready : IsReady m 
   stays-within q acts leaves did =
       let free : HoldsNone q only_file = (home-first.0, ap (λ ls. slice_get ls 0) leaves.locks ∙ home-first.1) in
       stays-acted q leaves.of leaves.shares free acts did
+
+-- turns at stripes leave it ready
+pub stays-goes : (m : MountView) (p q : PassView) → IsReady m p → IsPassOf m q → Goes p q → Stays m p q
+stays-goes m p q ready of goes =
+    let same : share_of q ≡ share_of p = share-goes p q goes in
+    record {
+      ready = record { alone = alone-goes m p q ready.alone of goes; one = ready.one; enough = subst (λ n. 128 ≤ n) (sym same) ready.enough };
+      share = same;
+    }

@@ -4,7 +4,7 @@ ghost use Rattle.worked_calls.specs.Stands.{IsReady, Stays};
 
 use crate::call_texts::expect_text;
 use crate::data_calls::{cut, give_space, punch_bytes, read, write, zero};
-use crate::page_calls::{drop_pages, flush_run, sync_file, write_run};
+use crate::page_calls::{drop_pages, flush_run, sync_file, wipe, write_run};
 use fault_device::Lane;
 use mini_fs::{Mount, Pass};
 use std::alloc::AllocError;
@@ -12,7 +12,8 @@ use std::process::Abort;
 use std::sync::Wait;
 use writeback_ioend::ErrorSeen;
 
-/// A call, with its place in the file and its length or its bytes.
+/// A call, with its place in the file and its length or its bytes. A wipe is the turn by which a punch with this number makes
+/// a hole of a block, without the class that the punch takes.
 #[derive(Clone, Copy)]
 pub(crate) enum Call {
     Pread { off: u64, bytes: u64 },
@@ -21,6 +22,7 @@ pub(crate) enum Call {
     Punch { off: u64, bytes: u64 },
     Alloc { off: u64, bytes: u64 },
     Trunc { size: u64 },
+    Wipe { number: u32, block: u64 },
     Wb { from: u64, blocks: u64 },
     Sync,
     Flush { from: u64, blocks: u64 },
@@ -51,6 +53,7 @@ pub(crate) fn make_call<R: Abort + Wait>(
         Call::Punch { off, bytes } => punch_bytes(rt, mount, pass, lane, off, bytes),
         Call::Alloc { off, bytes } => give_space(rt, mount, pass, lane, off, bytes),
         Call::Trunc { size } => cut(rt, mount, pass, lane, size),
+        Call::Wipe { number, block } => wipe(rt, mount, pass, number, block),
         Call::Wb { from, blocks } => write_run(rt, mount, pass, lane, from, blocks),
         Call::Sync => sync_file(rt, mount, pass, seen, lane),
         Call::Flush { from, blocks } => flush_run(rt, mount, pass, lane, from, blocks),

@@ -16,9 +16,15 @@ mod ends;
 #[cfg(test)]
 mod files;
 #[cfg(test)]
+mod held;
+#[cfg(test)]
+mod meetings;
+#[cfg(test)]
 mod nowait;
 #[cfg(test)]
 mod page_calls;
+#[cfg(test)]
+mod passes;
 #[cfg(test)]
 mod reads;
 #[cfg(test)]

@@ -1,16 +1,45 @@
-//! The calls that write the pages of the file to the device and drop them.
+//! The calls that write the pages of the file to the device and drop them, and the turn by which a block becomes a hole.
 ghost use Rattle.std.specs.Prelude.{◌≡◌, length};
 ghost use Rattle.worked_calls.specs.Stands.{IsReady, Stays};
 
 use crate::call_texts::{done_text, flushed_text};
 use crate::data_calls::next_number;
 use fault_device::Lane;
+use iob_base::{Answer, Reply, Stop, Tag};
 use mini_fs::{Mount, Pass};
 use std::alloc::AllocError;
 use std::process::Abort;
 use std::sync::Wait;
 use worked_mounts::FILE;
 use writeback_ioend::{ErrorSeen, drop_cache, flush, sync, write_back};
+
+/// Makes a hole of a block, as a punch of this number does in one turn. Want of memory is the only error.
+pub(crate) fn wipe<R: Abort + Wait>(
+    rt: &R,
+    mount: &Mount,
+    pass: &mut Pass,
+    number: u32,
+    block: u64,
+) -> Result<Vec<u8>, AllocError>
+    requires { IsReady mount.now pass.old }
+    ensures { Stays mount.now pass.old pass.new }
+{
+    let by = Tag {
+        caller: pass.caller(),
+        call: number,
+    };
+    assert!(rt; block < mount.blocks(FILE), "a block of the file");
+    mount.is_laid_out();
+    let wiped = mount.wipe(rt, pass, FILE, by, block, 1);
+    let answer = Answer {
+        reply: Reply::Ok {
+            count: wiped.unwrap_or(0),
+            stop: Stop::Whole,
+        },
+        bios: 0,
+    };
+    done_text(mount.allocator(), answer)
+}
 
 /// Writes the dirty blocks of a run. Want of memory is the only error.
 pub(crate) fn write_run<R: Abort + Wait>(
