@@ -1,3 +1,4 @@
+pub mod AimLemmas
 pub mod NoWaitLemmas
 pub mod PreadLemmas
 pub mod RangeLemmas

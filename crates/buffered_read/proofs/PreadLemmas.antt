@@ -4,7 +4,7 @@ use Rattle.std.specs.Prelude.{◌⊎◌, ◌^◌, ◌/◌, nat_lt, All, IfNone, 
 use Rattle.std.specs.declared.alloc.AllocError.{AllocError}
 use Rattle.std.proofs.lemmas.Bool.{cases_eq, eqb-true, false≢true}
 use Rattle.std.proofs.lemmas.Bool.Decides.{nat_tests}
-use Rattle.std.proofs.lemmas.List.Elements.{All-cons, All-nil, All-weaker}
+use Rattle.std.proofs.lemmas.List.Elements.{All-append, All-cons, All-nil, All-weaker}
 use Rattle.std.proofs.lemmas.Option.{slice_get-get_or}
 use Rattle.iob_base.specs.declared.answer.Answer.{Answer}
 use Rattle.iob_base.specs.declared.answer.Fault.{Fault}
@@ -53,7 +53,7 @@ use Rattle.buffered_read.specs.Preads.{EndsAt, HasReadUpTo, ReadOn, may_read, st
 use Rattle.buffered_read.specs.ReadCalls.{FindsEnd, FoundEnd, KeepsBudget, Preads, ReadsBy, ReadsCut, ReadsHeld, found_end}
 use Rattle.call_parts.specs.Reads.{bytes_read}
 use Rattle.call_parts.specs.Replies.{read_reply}
-use Rattle.call_parts.specs.Steps.{ServedBy, dones_in}
+use Rattle.call_parts.specs.Steps.{IsPlaced, IsQuiet, ServedBy, dones_in}
 use Rattle.call_parts.specs.declared.progress.Progress.{Progress}
 use Rattle.call_parts.proofs.BudgetLemmas.{how-many-all, loans-few}
 use Rattle.call_parts.proofs.FewLemmas.{few-ended, few-quiet, few-then}
@@ -61,7 +61,7 @@ use Rattle.call_parts.proofs.NumberLemmas.{answered-so, tickets-numbered}
 use Rattle.buffered_read.proofs.ReadLemmas.{bytes-after, over-nothing}
 use Rattle.call_parts.proofs.ReplyLemmas.{MayStop, ranged-so}
 use Rattle.buffered_read.proofs.SoFarLemmas.{read-append, written-none}
-use Rattle.call_parts.proofs.StepLemmas.{bios-append, served-none}
+use Rattle.call_parts.proofs.StepLemmas.{bios-append, quiet-placed, served-none}
 use Rattle.buffered_read.proofs.WarmLemmas.{shares-after}
 
 -- no look is made at a file without a size, or for no bytes
@@ -252,6 +252,7 @@ module _ (m : MountView) (file : FileId) (by : Tag) (off : ℕ) (a b : LaneView)
           count = cut.count;
           fault = cut.came.fault;
           callers = subst (All (λ (e : Entry). e.caller ≡ p.caller)) (sym own) (subst (λ n. All (λ (e : Entry). e.caller ≡ n) (own_entries read.acts)) caller steps.callers);
+          placed = All-append (IsPlaced m file) f.acts read.acts (quiet-placed m file f.acts (subst (All IsQuiet) (sym looks.own) (All-nil IsQuiet))) steps.placed;
           run = (let two = bios-append f.acts read.acts in let none = looks.bios in let ran = steps.run in let e : bios_in (f.acts ++ read.acts) ≡ loans_in read.acts = omega (arith, two, none, ran) in e) ∙ sym loans;
           lane = subst (λ es. ServedBy a b (dones_in es)) (sym own) steps.lane;
           sizes = subst (λ l. FindsEnd (file_at m file).size (length iov.bytes) (file_end m file) p.caller by l (Ok found))
@@ -263,7 +264,7 @@ module _ (m : MountView) (file : FileId) (by : Tag) (off : ℕ) (a b : LaneView)
           parts = subst (ReadOn off (off + cut.count)) (sym own) (subst (λ n. ReadOn off n (own_entries read.acts)) (sym place) read.parts);
           reply = cut.reply;
           lawful = cut.lawful;
-          cause = subst (λ es. IfSome cut.came.fault (IsCaused es)) (sym own) read.cause;
+          cause = subst (λ es. IfSome cut.came.fault (IsCaused m es)) (sym own) read.cause;
           bios = cut.bios ∙ read.bios ∙ ap (λ n. min n (2 ^ 64 - 1)) (sym loans);
           few = subst (λ n. LendsFew m file (λ b. true) (off / size) n cut.came.fault (f.acts ++ read.acts)) (met-cut size found off (length iov.bytes))
               (few-then m file (λ b. true) (off / size) (blocks_met size (span off (read_to found off (length iov.bytes)))) cut.came.fault f.acts read.acts
@@ -289,6 +290,7 @@ held-none m file by off a p q iov answer e asked asked_is joined finds is =
         count = 0;
         fault = Some fault.NoMemory;
         callers = subst (All (λ (x : Entry). x.caller ≡ p.caller)) (sym looks.own) (All-nil (λ (x : Entry). x.caller ≡ p.caller));
+        placed = quiet-placed m file f.acts (subst (All IsQuiet) (sym looks.own) (All-nil IsQuiet));
         run = looks.bios ∙ sym loans;
         lane = subst (λ es. ServedBy a a (dones_in es)) (sym looks.own) (served-none a);
         sizes = subst (λ l. FindsEnd (file_at m file).size (length iov.bytes) (file_end m file) p.caller by l (Err e)) (sym looks.sizes) f.finds;
@@ -307,14 +309,15 @@ held-none m file by off a p q iov answer e asked asked_is joined finds is =
 
 -- the acts of a read under its class, with others around them that make no entry, run no bio, meet no size and give no bytes
 unfoldable reads-around : (m : MountView) (file : FileId) (by : Tag) (off : ℕ) (a b : LaneView) (p start : PassView) (iov later : IovView) (answer : Answer) (inner acts : List Act) → start.caller ≡ p.caller → own_entries acts ≡ own_entries inner → bios_in acts ≡ bios_in inner → size_acts acts ≡ size_acts inner
-    → bytes_read m p [] acts ≡ bytes_read m start [] inner → ((low n : ℕ) (o : Option Fault) → LendsFew m file (λ b. true) low n o inner → LendsFew m file (λ b. true) low n o acts) → ReadsBy m file by off a b start iov later answer inner → ReadsBy m file by off a b p iov later answer acts
-reads-around m file by off a b p start iov later answer inner acts caller own bios sizes bytes few r =
+    → bytes_read m p [] acts ≡ bytes_read m start [] inner → ((low n : ℕ) (o : Option Fault) → LendsFew m file (λ b. true) low n o inner → LendsFew m file (λ b. true) low n o acts) → (All (IsPlaced m file) inner → All (IsPlaced m file) acts) → ReadsBy m file by off a b start iov later answer inner → ReadsBy m file by off a b p iov later answer acts
+reads-around m file by off a b p start iov later answer inner acts caller own bios sizes bytes few placed r =
     let loans : loans_in acts ≡ loans_in inner = ap (total lendings) own in
     record {
       found = r.found;
       count = r.count;
       fault = r.fault;
       callers = subst (All (λ (e : Entry). e.caller ≡ p.caller)) (sym own) (subst (λ n. All (λ (e : Entry). e.caller ≡ n) (own_entries inner)) caller r.callers);
+      placed = placed r.placed;
       run = bios ∙ r.run ∙ sym loans;
       lane = subst (λ es. ServedBy a b (dones_in es)) (sym own) r.lane;
       sizes = subst (λ l. FindsEnd (file_at m file).size (length iov.bytes) (file_end m file) p.caller by l r.found) (sym sizes) (subst (λ n. FindsEnd (file_at m file).size (length iov.bytes) (file_end m file) n by (size_acts inner) r.found) caller r.sizes);
@@ -325,7 +328,7 @@ reads-around m file by off a b p start iov later answer inner acts caller own bi
       parts = subst (ReadOn off (off + r.count)) (sym own) r.parts;
       reply = r.reply;
       lawful = r.lawful;
-      cause = subst (λ es. IfSome r.fault (IsCaused es)) (sym own) r.cause;
+      cause = subst (λ es. IfSome r.fault (IsCaused m es)) (sym own) r.cause;
       bios = r.bios ∙ ap (λ n. min n (2 ^ 64 - 1)) (sym loans);
       few = few (off / m.geometry.block_size) (blocks_met m.geometry.block_size (range_in (found_end (file_end m file) r.found) off (length iov.bytes))) r.fault r.few;
     }
@@ -389,6 +392,12 @@ module _ (m : MountView) (file : FileId) (call : ℕ) (p p1 p2 : PassView) (hold
           (few-quiet m file (λ b. true) low n None (Number call ∷ Take file Cached takes.seat hold.seat ∷ []) (All-nil (λ (e : Entry). IsSound e.event)) refl)
           (few-ended m file (λ b. true) low n o held.acts (last_act ∷ []) few (All-nil (λ (e : Entry). IsSound e.event)) refl)
 
+      -- the call's own number and its class leave no stamps
+      call-placed : All (IsPlaced m file) held.acts → All (IsPlaced m file) call_acts
+      call-placed placed =
+          All-cons (IsPlaced m file) (Number call) (Take file Cached takes.seat hold.seat ∷ rest_acts) tt
+          (All-cons (IsPlaced m file) (Take file Cached takes.seat hold.seat) rest_acts tt (All-append (IsPlaced m file) held.acts (last_act ∷ []) placed (All-cons (IsPlaced m file) last_act [] tt (All-nil (IsPlaced m file)))))
+
       within-budget : KeepsBudget m file (off / m.geometry.block_size) (blocks_met m.geometry.block_size (range_in (found_end (file_end m file) held.read.found) off (length iov.bytes))) p call_acts
       within-budget alone happened =
           let low = off / m.geometry.block_size in
@@ -414,7 +423,7 @@ module _ (m : MountView) (file : FileId) (call : ℕ) (p p1 p2 : PassView) (hold
               leaves.next,
               ap (λ l. Take file Cached takes.seat hold.seat ∷ l) (lock_acts-append held.acts (last_act ∷ []) ∙ ap (λ l. l ++ last_act ∷ []) held.locks) ∙ ap (λ f. Take file Cached takes.seat hold.seat ∷ Leave f Cached hold.seat leaves.next ∷ []) takes.file_is,
             );
-            read = reads-around m file (tag_of p call) off a b p p2 iov later answer held.acts call_acts (acted-caller (Number call ∷ Take file Cached takes.seat hold.seat ∷ []) p p2 first-acted) own bios sizes bytes call-few held.read;
+            read = reads-around m file (tag_of p call) off a b p p2 iov later answer held.acts call_acts (acted-caller (Number call ∷ Take file Cached takes.seat hold.seat ∷ []) p p2 first-acted) own bios sizes bytes call-few call-placed held.read;
             budget = λ alone happened. within-budget alone happened;
           }
 

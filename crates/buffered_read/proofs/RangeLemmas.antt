@@ -34,7 +34,8 @@ use Rattle.call_parts.proofs.FewLemmas.{few-ended, few-quiet, few-then}
 use Rattle.call_parts.proofs.MapLemmas.{maps-quiet}
 use Rattle.buffered_read.proofs.ReadLemmas.{IsReadSoFar, both, on-quiet, read-kept, read-quiet, read-then, read-up-to, so-far-at, so-far-next, so-far-none, so-far-short}
 use Rattle.call_parts.proofs.StepLemmas.{quiet-bytes, quiet-stamps, steps-may}
-use Rattle.buffered_read.proofs.WarmLemmas.{few-bios, few-more, next-fewer, some-size}
+use Rattle.buffered_read.proofs.AimLemmas.{next-fewer, some-size}
+use Rattle.buffered_read.proofs.WarmLemmas.{few-bios, few-more}
 
 -- a read may make the turns that only look
 maps-read : (by : Tag) (e : Event) → IsTrue (maps false e) → IsTrue (may_read by e)

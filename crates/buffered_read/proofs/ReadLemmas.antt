@@ -123,13 +123,13 @@ pub more-min : (a b most : ℕ) → min (min a most + min b most) most ≡ min (
 more-min a b most = omega arith
 
 -- what caused a fault of a part caused it in the whole
-pub if-caused-left : (entries more : List Entry) (fault : Option Fault) → IfSome fault (IsCaused entries) → IfSome fault (IsCaused (entries ++ more))
-if-caused-left entries more None is = tt
-if-caused-left entries more (Some fault) is = caused-left entries more fault is
+pub if-caused-left : (m : MountView) (entries more : List Entry) (fault : Option Fault) → IfSome fault (IsCaused m entries) → IfSome fault (IsCaused m (entries ++ more))
+if-caused-left m entries more None is = tt
+if-caused-left m entries more (Some fault) is = caused-left m entries more fault is
 
-pub if-caused-right : (entries more : List Entry) (fault : Option Fault) → IfSome fault (IsCaused more) → IfSome fault (IsCaused (entries ++ more))
-if-caused-right entries more None is = tt
-if-caused-right entries more (Some fault) is = caused-right entries more fault is
+pub if-caused-right : (m : MountView) (entries more : List Entry) (fault : Option Fault) → IfSome fault (IsCaused m more) → IfSome fault (IsCaused m (entries ++ more))
+if-caused-right m entries more None is = tt
+if-caused-right m entries more (Some fault) is = caused-right m entries more fault is
 
 -- bytes that entries read, and then others behind them, follow on one another
 next-more : (from : ℕ) (Rest More : ℕ → Type 0) → ((at : ℕ) → Rest at → More at) → (e : Event) (o : Outcome) → ReadsNext from Rest e o → ReadsNext from More e o
@@ -153,7 +153,7 @@ module _ (m : MountView) (file : FileId) (by : Tag) where
   -- a step that gave no bytes and left no stamps, whatever fault it met
   unfoldable pub read-quiet : (from : ℕ) (a b : LaneView) (p q : PassView) (iov : IovView) (acts : List Act) (bios : ℕ) (fault : Option Fault) → Steps m file (may_read by) a b p q acts
       → stamps_in m.geometry.block_size (own_entries acts) ≡ [] → bytes_read m p [] acts ≡ [] → ReadOn from from (own_entries acts) → bios ≡ min (loans_in acts) (2 ^ 64 - 1)
-      → IfSome fault (IsCaused (own_entries acts)) → IfSome fault (λ f. IsTrue (stops_read f)) → HasReadFrom m file by from a b p q iov iov (progress from bios fault)
+      → IfSome fault (IsCaused m (own_entries acts)) → IfSome fault (λ f. IsTrue (stops_read f)) → HasReadFrom m file by from a b p q iov iov (progress from bios fault)
   read-quiet from a b p q iov acts bios fault steps stamps bytes parts sent cause kind = record {
     acts = acts;
     steps = steps;
@@ -173,7 +173,7 @@ module _ (m : MountView) (file : FileId) (by : Tag) where
   -- bytes read after others, which meet where a block ends if both are some
   module _ (some : 0 < m.geometry.block_size) (from at : ℕ) (a b c : LaneView) (p q r : PassView) (iov later last : IovView) (first next : Progress) (of : IsPassOf m p) (meet : first.at ≡ at) (fits : iov.place + (at - from) ≤ length iov.bytes) (whole : from < at → at < next.at → at % m.geometry.block_size ≡ 0)
       (one : HasReadFrom m file by from a b p q iov later first) (two : HasReadFrom m file by at b c q r later last next) where
-    unfoldable pub both : (fault : Option Fault) → IfSome fault (IsCaused (own_entries one.acts ++ own_entries two.acts)) → IfSome fault (λ f. IsTrue (stops_read f))
+    unfoldable pub both : (fault : Option Fault) → IfSome fault (IsCaused m (own_entries one.acts ++ own_entries two.acts)) → IfSome fault (λ f. IsTrue (stops_read f))
         → HasReadFrom m file by from a c p r iov last (progress next.at (more_bios first.bios next.bios) fault)
     both fault cause kind =
         let size = m.geometry.block_size in
@@ -197,7 +197,7 @@ module _ (m : MountView) (file : FileId) (by : Tag) where
               ∙ ap (λ l. l ++ stamps_in size (own_entries two.acts)) (one.stamps ∙ ap (λ n. stamps_over size (span from n) (done_by by)) meet)
               ∙ ap (λ l. stamps_over size (span from at) (done_by by) ++ l) two.stamps
               ∙ over-joined size some (done_by by) from at next.at (omega (arith, begins, meet)) goes_on whole;
-          cause = subst (λ es. IfSome fault (IsCaused es)) (sym entries) cause;
+          cause = subst (λ es. IfSome fault (IsCaused m es)) (sym entries) cause;
           kind = kind;
           bios = ap (λ n. min (n + next.bios) (2 ^ 64 - 1)) one.bios ∙ ap (λ n. min (min (loans_in one.acts) (2 ^ 64 - 1) + n) (2 ^ 64 - 1)) two.bios
               ∙ more-min (loans_in one.acts) (loans_in two.acts) (2 ^ 64 - 1) ∙ ap (λ n. min n (2 ^ 64 - 1)) (sym (loans-append one.acts two.acts));
@@ -205,10 +205,10 @@ module _ (m : MountView) (file : FileId) (by : Tag) where
 
     -- with the fault of the later ones, or with that of the first
     unfoldable pub read-then : HasReadFrom m file by from a c p r iov last (progress next.at (more_bios first.bios next.bios) next.fault)
-    read-then = both next.fault (if-caused-right (own_entries one.acts) (own_entries two.acts) next.fault two.cause) two.kind
+    read-then = both next.fault (if-caused-right m (own_entries one.acts) (own_entries two.acts) next.fault two.cause) two.kind
 
     unfoldable pub read-kept : HasReadFrom m file by from a c p r iov last (progress next.at (more_bios first.bios next.bios) first.fault)
-    read-kept = both first.fault (if-caused-left (own_entries one.acts) (own_entries two.acts) first.fault one.cause) one.kind
+    read-kept = both first.fault (if-caused-left m (own_entries one.acts) (own_entries two.acts) first.fault one.cause) one.kind
 
 -- what was read up to a place, with as many bios as are counted
 pub read-up-to : (m : MountView) (file : FileId) (by : Tag) (from to : ℕ) (a b : LaneView) (p q : PassView) (iov later : IovView) (at n bios : ℕ) (fault : Option Fault) → n ≡ bios → (read : HasReadFrom m file by from a b p q iov later (progress at n fault))

@@ -75,7 +75,7 @@ pub record HasReadFrom (m : MountView) (file : FileId) (by : Tag) (from : ℕ) (
   pub long : length (bytes_read m p [] acts) ≡ came.at - from
   pub parts : ReadOn from came.at (own_entries acts)
   pub stamps : stamps_in m.geometry.block_size (own_entries acts) ≡ stamps_over m.geometry.block_size (span from came.at) (done_by by)
-  pub cause : IfSome came.fault (IsCaused (own_entries acts))
+  pub cause : IfSome came.fault (IsCaused m (own_entries acts))
   pub kind : IfSome came.fault (λ fault. IsTrue (stops_read fault))
   pub bios : came.bios ≡ min (loans_in acts) (2 ^ 64 - 1)
 

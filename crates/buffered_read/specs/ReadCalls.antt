@@ -30,7 +30,7 @@ use Rattle.call_parts.specs.Parts.{read_to, stamps_over}
 use Rattle.buffered_read.specs.Preads.{EndsAt, HasReadUpTo, ReadOn, may_read}
 use Rattle.call_parts.specs.Reads.{bytes_read}
 use Rattle.call_parts.specs.Replies.{read_reply}
-use Rattle.call_parts.specs.Steps.{ServedBy, dones_in}
+use Rattle.call_parts.specs.Steps.{IsPlaced, ServedBy, dones_in}
 use Rattle.call_parts.specs.declared.progress.Progress.{Progress}
 
 -- The acts are one look of a caller's call at a size cell, which found a size of at most so many bytes, or had no memory for its entry
@@ -75,12 +75,13 @@ pub record ReadsCut (m : MountView) (file : FileId) (by : Tag) (off end : ℕ) (
   pub bios : answer.bios ≡ came.bios
 
 module _ (m : MountView) (file : FileId) where
-  -- Acts of a call that reads bytes from an offset on into an iov, and its answer. They find where the bytes of the file end and read those before it in order, up to where a fault stops them, as the histories leave them; each answered block is stamped once, in order, and nothing else is. The fault rests on an own entry, the reply is one that the call may have, and each loan was one bio
+  -- Acts of a call that reads bytes from an offset on into an iov, and its answer. They find where the bytes of the file end and read those before it in order, up to where a fault stops them, as the histories leave them; each answered block is stamped once, in order and at its stripe, and nothing else is. The fault rests on an own entry, the reply is one that the call may have, and each loan was one bio
   pub record ReadsBy (by : Tag) (off : ℕ) (before after : LaneView) (p : PassView) (iov later : IovView) (answer : Answer) (acts : List Act) : Type 0 where
     pub found : Result ℕ AllocError
     pub count : ℕ
     pub fault : Option Fault
     pub callers : All (λ e. e.caller ≡ p.caller) (own_entries acts)
+    pub placed : All (IsPlaced m file) acts
     pub run : bios_in acts ≡ loans_in acts
     pub lane : ServedBy before after (dones_in (own_entries acts))
     pub sizes : FindsEnd (file_at m file).size (length iov.bytes) (file_end m file) p.caller by (size_acts acts) found
@@ -91,7 +92,7 @@ module _ (m : MountView) (file : FileId) where
     pub parts : ReadOn off (off + count) (own_entries acts)
     pub reply : answer.reply ≡ read_reply (length iov.bytes) (span_length (range_in (found_end (file_end m file) found) off (length iov.bytes))) count fault
     pub lawful : IsTrue (is_lawful_reply m.geometry.grain m.geometry.block_size (file_at m file).blocks (range_in (found_end (file_end m file) found) off (length iov.bytes)) true (Pread off iov.lengths) answer.reply)
-    pub cause : IfSome fault (IsCaused (own_entries acts))
+    pub cause : IfSome fault (IsCaused m (own_entries acts))
     pub bios : answer.bios ≡ min (loans_in acts) (2 ^ 64 - 1)
     pub few : LendsFew m file (λ b. true) (off / m.geometry.block_size) (blocks_met m.geometry.block_size (range_in (found_end (file_end m file) found) off (length iov.bytes))) fault acts
 

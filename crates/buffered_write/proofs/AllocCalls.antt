@@ -3,7 +3,7 @@ use Rattle.std.proofs.Common.{◌≡◌, ℕ, ◌+◌, ◌-◌, ◌*◌, ◌<◌
 use Rattle.std.specs.Prelude.{◌/◌, ◌^◌, ◌&&◌, ◌||◌, nat_le, nat_lt, All, IfErr, IfOk, IsTrue, Result, slice_get}
 use Rattle.std.proofs.lemmas.Bool.{eq-eqb, false≢true, le-leb, lt-ltb, ltb-true}
 use Rattle.std.proofs.lemmas.Bool.Decides.{nat_tests}
-use Rattle.std.proofs.lemmas.List.Elements.{All-cons, All-nil, All-weaker}
+use Rattle.std.proofs.lemmas.List.Elements.{All-append, All-cons, All-nil, All-weaker}
 use Rattle.iob_base.specs.declared.answer.Answer.{Answer}
 use Rattle.iob_base.specs.declared.answer.Fault.{Fault}
 use Rattle.iob_base.specs.declared.answer.Fault.TheVariants.{TooFar}
@@ -36,13 +36,13 @@ use Rattle.mini_fs.specs.Tickets.{KeepsTickets}
 use Rattle.mini_fs.proofs.ActLemmas.{left-act, taken-act}
 use Rattle.mini_fs.proofs.CallEnds.{acted-caller, acted-locks, acted-shares, acted-spare}
 use Rattle.mini_fs.proofs.CallLemmas.{call-then, lock_acts-append, own_entries-append, size_acts-append}
-use Rattle.buffered_write.specs.Allocates.{Allocates, AllocatesLocked, AllocatesRun, ComesTo, IsGivenBy, all_taken, alloc_reply, allocates, asked_range, blocks_end, count_reply, first_block, space_fault}
+use Rattle.buffered_write.specs.Allocates.{Allocates, AllocatesLocked, AllocatesRun, ComesTo, IsGivenBy, StaysInStripe, all_taken, alloc_reply, allocates, asked_range, blocks_end, count_reply, first_block, space_fault}
 use Rattle.call_parts.specs.Causes.{HasOne, IsCaused}
-use Rattle.call_parts.specs.Steps.{IsQuiet, is_quiet}
-use Rattle.buffered_write.proofs.AllocLemmas.{block-given, fault-caused, no-loans, some_lane}
+use Rattle.call_parts.specs.Steps.{IsPlaced, IsQuiet, is_quiet}
+use Rattle.buffered_write.proofs.AllocLemmas.{block-given, given-where, no-loans, some_lane}
 use Rattle.call_parts.proofs.NumberLemmas.{call-numbered, tickets-numbered}
 use Rattle.call_parts.proofs.PartLemmas.{div-mono}
-use Rattle.call_parts.proofs.StepLemmas.{bios-append, one-left, quiet-stamps}
+use Rattle.call_parts.proofs.StepLemmas.{bios-append, one-left, quiet-placed, quiet-stamps}
 
 -- The class is still held where a run was allocated
 module _ (m : MountView) (file : FileId) (from to : ℕ) (p r s q : PassView) (came : Result ℕ Fault) (h : HoldView) (run : AllocatesRun m file from to r s came) where
@@ -145,10 +145,6 @@ module _ (caller to from : ℕ) where
   come-lawful off asked (Ok count) entries comes = tt
   come-lawful off asked (Err fault) entries comes = (let refused = comes.ends.2 in subst (λ f. may_meet true (Alloc off asked) f ≡ true) (sym refused.fault_is) (space-lawful off asked refused.refused))
 
-  pub come-caused : (came : Result ℕ Fault) (entries : List Entry) → ComesTo caller to from came entries → IfErr came (IsCaused entries)
-  come-caused (Ok count) entries comes = tt
-  come-caused (Err fault) entries comes = fault-caused caller to from fault entries comes
-
   pub come-given : (came : Result ℕ Fault) (entries : List Entry) (n b : ℕ) (stop : Stop) → ComesTo caller to from came entries → count_reply came ≡ replied.Ok n stop → from ≤ b → b < to → HasOne (IsGivenBy caller b) entries
   come-given (Ok count) entries n b stop comes is low high =
       let ends = comes.ends.1 in
@@ -195,6 +191,7 @@ module _ (m : MountView) (file : FileId) (call off asked : ℕ) (p start : PassV
         came = Ok 0;
         did = number-did;
         callers = All-nil (λ (e : Entry). e.caller ≡ p.caller);
+        placed = All-cons (IsPlaced m file) (Number call) [] tt (All-nil (IsPlaced m file));
         class = inl (refl, refl);
         sizes = refl;
         stamps = refl;
@@ -234,6 +231,14 @@ module _ (m : MountView) (file : FileId) (call off asked : ℕ) (p start q : Pas
       call-then m file allocates p start q (Number call ∷ []) (Take file Exclusive locked.home locked.held ∷ (work ++ leave)) (number-did m file call off asked p start first)
       (call-then m file allocates start locked.locked q take (work ++ leave) take-did (call-then m file allocates locked.locked locked.done q work leave (locked.run.steps some_lane).did leave-did))
 
+  all-stay : All (StaysInStripe m file) all_acts
+  all-stay =
+      let work = locked.run.acts in
+      let leave = Leave file Exclusive locked.held locked.next in
+      let take = Take file Exclusive locked.home locked.held in
+      let stays : Act → Type 0 = StaysInStripe m file in
+      All-cons stays (Number call) (take ∷ (work ++ leave ∷ [])) tt (All-cons stays take (work ++ leave ∷ []) tt (All-append stays work (leave ∷ []) locked.run.stays (All-cons stays leave [] tt (All-nil stays))))
+
   pub range-allocated : (answer : Answer) → 0 < m.geometry.block_size → (asked ≡ 0 → ⊥) → off < file_end m file → answer.bios ≡ 0 → answer.reply ≡ count_reply came → Allocates m file call off asked p q answer
   range-allocated answer sized some near unsent is =
       let size = m.geometry.block_size in
@@ -249,15 +254,17 @@ module _ (m : MountView) (file : FileId) (call off asked : ℕ) (p start q : Pas
       let ours : Entry → Type 0 = λ e. e.caller ≡ p.caller in
       let ran : bios_in all_acts ≡ loans_in all_acts = bios-append run.acts leave ∙ (let z : bios_in run.acts + 0 ≡ bios_in run.acts = omega arith in z) ∙ step.run ∙ ap (total lendings) (sym entries) in
       let most : blocks_end m file off asked - first_block m off ≡ blocks_met size range = omega arith in
+      let quiet : All IsQuiet (own_entries all_acts) = All-weaker (λ (e : Entry). IsTrue (allocates e.event)) IsQuiet (λ e mine. allocates-quiet e.event mine) (own_entries all_acts) all-did.made in
       let told : answer.reply ≡ alloc_reply (file_end m file) off asked came = is ∙ sym (reply-counted (file_end m file) off asked came some near) in
       record {
         acts = all_acts;
         came = came;
         did = all-did;
         callers = subst (All ours) (sym entries) (subst (λ c. All (λ (e : Entry). e.caller ≡ c) (own_entries run.acts)) same step.callers);
+        placed = quiet-placed m file all_acts quiet;
         class = inr (record { home = locked.home; held = locked.held; next = locked.next; work = run.acts; acts_are = refl; locks = locks });
         sizes = size_acts-append run.acts leave ∙ ap (λ l. l ++ []) step.sizes;
-        stamps = quiet-stamps size (own_entries all_acts) (All-weaker (λ (e : Entry). IsTrue (allocates e.event)) IsQuiet (λ e mine. allocates-quiet e.event mine) (own_entries all_acts) all-did.made);
+        stamps = quiet-stamps size (own_entries all_acts) quiet;
         bios = unsent ∙ ap (λ k. min k (2 ^ 64 - 1)) (sym none);
         none = unsent;
         ran = ran;
@@ -266,10 +273,10 @@ module _ (m : MountView) (file : FileId) (call off asked : ℕ) (p start q : Pas
         reply = told;
         all = λ n stop ok b met.
             let at = met-block size off range.to b sized met in
-            come-given p.caller (blocks_end m file off asked) (first_block m off) came (own_entries all_acts) n b stop comes (sym is ∙ ok) at.0 at.1;
+            given-where m file p.caller b all_acts all-stay (come-given p.caller (blocks_end m file off asked) (first_block m off) came (own_entries all_acts) n b stop comes (sym is ∙ ok) at.0 at.1);
         lawful = subst (λ r. IsTrue (is_lawful_reply m.geometry.grain size (file_at m file).blocks range true (Alloc off asked) r)) (sym told)
             (lawful-alloc m.geometry.grain size (file_at m file).blocks off asked range came (few-in came (own_entries run.acts) _ _ most run.count) (come-lawful p.caller (blocks_end m file off asked) (first_block m off) off asked came (own_entries all_acts) comes));
-        cause = come-caused p.caller (blocks_end m file off asked) (first_block m off) came (own_entries all_acts) comes;
+        cause = subst (λ l. IfErr came (IsCaused m l)) (sym entries) run.cause;
       }
 
   pub range-leaves : IsPassOf m q → KeepsTickets start q → LeavesPass m file call p q

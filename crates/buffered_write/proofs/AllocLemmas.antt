@@ -1,7 +1,8 @@
 -- Turns that give space to the parts of a run of blocks make up the run.
 use Rattle.std.proofs.Common.{◌≡◌, ℕ, zero, suc, ◌+◌, ◌-◌, ◌<◌, ◌≤◌, inl, inr, Bool, true, false, List, [], ◌∷◌, ◌++◌, length, None, Ok, Err, refl, sym, ap, ◌∙◌, subst, arith, append-nil}
-use Rattle.std.specs.Prelude.{IsTrue, Result}
-use Rattle.std.proofs.lemmas.Bool.{cases_lt}
+use Rattle.std.specs.Prelude.{◌%◌, ◌/◌, ◌==◌, All, IsTrue, Result, if◌then◌else◌}
+use Rattle.std.proofs.lemmas.Bool.{cases_lt, eq-eqb}
+use Rattle.std.proofs.lemmas.List.Elements.{All-append, All-cons, All-head, All-nil, All-tail}
 use Rattle.iob_base.specs.declared.answer.Fault.{Fault}
 use Rattle.iob_base.specs.declared.stamp.FileId.{FileId}
 use Rattle.fault_device.specs.LaneView.{LaneView, lane_of}
@@ -21,8 +22,8 @@ use Rattle.range_core.specs.declared.fault.EventFault.TheVariants as refusal
 use Rattle.range_core.proofs.CountLemmas.{count_on-total}
 use Rattle.range_core.proofs.PlaceLemmas.{length-pairs}
 use Rattle.mount_parts.specs.MountView.{HasBlock, IsLaidOut, MountView, file_at, stripe_at}
-use Rattle.mini_fs.specs.Acts.{own_entries}
-use Rattle.mini_fs.specs.Acts.Act.{Turn}
+use Rattle.mini_fs.specs.Acts.{Act, made_in, own_entries}
+use Rattle.mini_fs.specs.Acts.Act.{Turn, SizeTurn, Busy, Open, Close, Take, Refused as Denied, Leave, Run, Note, Number}
 use Rattle.mini_fs.specs.PageTurns.{entry_by}
 use Rattle.mini_fs.specs.PassView.{IsPassOf, PassView, claims_of}
 use Rattle.mini_fs.specs.SpaceTurns.{Preallocated}
@@ -31,11 +32,12 @@ use Rattle.mini_fs.proofs.ActLemmas.{turned-act}
 use Rattle.mini_fs.proofs.CallEnds.{acted-caller}
 use Rattle.mini_fs.proofs.CallLemmas.{own_entries-append}
 use Rattle.mini_fs.proofs.Ready.{run-lies}
-use Rattle.buffered_write.specs.Allocates.{AllocatesPart, AllocatesRun, ComesTo, EndsParts, GiveParts, GivesPart, HasAllocated, IsGivenBy, RefusesPart, all_taken, allocates, blocks_taken, space_fault, stripe_end}
+use Rattle.buffered_write.specs.Allocates.{AllocatesPart, AllocatesRun, ComesTo, EndsParts, GiveParts, GivesPart, HasAllocated, IsGivenBy, IsInStripe, RefusesPart, StaysInStripe, all_taken, allocates, blocks_taken, space_fault, stripe_end}
 use Rattle.call_parts.specs.Causes.{HasOne, IsCaused}
-use Rattle.call_parts.specs.Steps.{done_of}
+use Rattle.call_parts.specs.Steps.{IsPlaced, done_of, is_quiet}
 use Rattle.call_parts.proofs.MapLemmas.{act-step}
-use Rattle.call_parts.proofs.StepLemmas.{caused-right, steps-none, steps-then}
+use Rattle.call_parts.proofs.SpaceLemmas.{ShortOf, place-short}
+use Rattle.call_parts.proofs.StepLemmas.{caused-right, one-right, quiet-act, steps-none, steps-then}
 
 -- no more blocks of a run pass a test than the run has
 one-few : (t : Bool) → one_where t ≤ 1
@@ -53,6 +55,19 @@ count-few p (suc low) n (x ∷ xs) = count-few p low n xs
 done-none : (e : Entry) (at n : ℕ) → e.event ≡ Preallocate at n → done_of e.event e.outcome ≡ []
 done-none e at n is = ap (λ x. done_of x e.outcome) is
 
+-- a refusal causes the fault that tells it
+refusal-causes : (m : MountView) (refused : EventFault) (own : Entry) → own.outcome ≡ Refused refused → ShortOf m refused → IsCaused m (own ∷ []) (space_fault refused)
+refusal-causes m (refusal.Worn cookie) own is short = (0, own, refl, is)
+refusal-causes m (refusal.NoSpace wanted found) own is short = ((0, own, refl, is), short)
+refusal-causes m refusal.NoMemory own is short = tt
+refusal-causes m (refusal.Stale sample now) own is short = tt
+refusal-causes m (refusal.Away block ticket) own is short = tt
+refusal-causes m (refusal.Cold block) own is short = tt
+refusal-causes m (refusal.Settled block) own is short = tt
+refusal-causes m (refusal.Unattached block) own is short = tt
+refusal-causes m (refusal.Dirty block) own is short = tt
+refusal-causes m (refusal.Poison done) own is short = tt
+
 -- a lane, where a step says the same of each
 pub some_lane : LaneView
 some_lane = lane_of 0 0 None
@@ -64,6 +79,15 @@ module _ (m : MountView) (file : FileId) (to at n : ℕ) (p q : PassView) (n_is 
 
   pub part-ready : IsLaidOut m → ReadyAt (λ opening history claims. LiesAt opening at n) m p (stripe_at m file at) (claims_of p)
   part-ready laid cell seat stand = run-lies m file laid at n (omega (arith, n_is, some)) (omega (arith, n_is, some, within)) (omega (arith, n_is, some)) cell stand.cell_is
+
+  -- an entry that gave space, or was to, left no stamps, and its run lies in the stripe
+  gives-placed : (own : Entry) → own.event ≡ Preallocate at n → (others : List Entry) → IsPlaced m file (Turn (stripe_at m file at) others own)
+  gives-placed own is others = quiet-act m file (stripe_at m file at) others own (subst (λ e. IsTrue (is_quiet e)) (sym is) refl)
+
+  stays-one : (own : Entry) → own.event ≡ Preallocate at n → (others : List Entry) → All (StaysInStripe m file) (Turn (stripe_at m file at) others own ∷ [])
+  stays-one own is others =
+      let fits : at % 64 + n ≤ 64 = omega (arith, n_is, some) in
+      All-cons (StaysInStripe m file) (Turn (stripe_at m file at) others own) [] (subst (IsInStripe m file (stripe_at m file at)) (sym is) (refl, fits)) (All-nil (StaysInStripe m file))
 
   pub part-given : (taken : ℕ) → IsPassOf m p → TurnsAt (λ opening history before after entry. Preallocated m.pool.opening at n (claims_of p) (Ok taken) before after entry) m (stripe_at m file at) (claims_of p) (claims_of p) p q → AllocatesPart m file to at p q (Ok taken)
   part-given taken of t =
@@ -78,9 +102,11 @@ module _ (m : MountView) (file : FileId) (to at n : ℕ) (p q : PassView) (n_is 
       let few : taken ≤ n = subst (λ k. k ≤ n) (sym placed.count) (count-few lacks_sector (at - before.first) n before.cells) in
       record {
         acts = Turn (stripe_at m file at) t.turned.others own ∷ [];
-        steps = act-step m file allocates at t.turned.others own p q of part-block (turned-act t) (subst (λ e. IsTrue (allocates e)) (sym event) refl) (ap (λ (e : Entry). e.caller) given.entry_is) (ap has_lent outcome) (done-none own at n event);
+        steps = act-step m file allocates at t.turned.others own p q of part-block (turned-act t) (subst (λ e. IsTrue (allocates e)) (sym event) refl) (ap (λ (e : Entry). e.caller) given.entry_is) (ap has_lent outcome) (done-none own at n event) (gives-placed own event t.turned.others);
         entry = own;
         entries = refl;
+        stays = stays-one own event t.turned.others;
+        cause = tt;
         part = (
           record { some = some; pairs = pairs; entry_is = given.entry_is ∙ ap (λ k. entry_by p.caller (Preallocate at k) (Took pairs)) n_is },
           sym (ap blocks_taken outcome ∙ many ∙ placed.as_many),
@@ -96,9 +122,11 @@ module _ (m : MountView) (file : FileId) (to at n : ℕ) (p q : PassView) (n_is 
       let event : own.event ≡ Preallocate at n = ap (λ (e : Entry). e.event) none.entry_is in
       record {
         acts = Turn (stripe_at m file at) t.turned.others own ∷ [];
-        steps = act-step m file allocates at t.turned.others own p q of part-block (turned-act t) (subst (λ e. IsTrue (allocates e)) (sym event) refl) (ap (λ (e : Entry). e.caller) none.entry_is) (ap (λ (e : Entry). has_lent e.outcome) none.entry_is) (done-none own at n event);
+        steps = act-step m file allocates at t.turned.others own p q of part-block (turned-act t) (subst (λ e. IsTrue (allocates e)) (sym event) refl) (ap (λ (e : Entry). e.caller) none.entry_is) (ap (λ (e : Entry). has_lent e.outcome) none.entry_is) (done-none own at n event) (gives-placed own event t.turned.others);
         entry = own;
         entries = refl;
+        stays = stays-one own event t.turned.others;
+        cause = subst (IsCaused m (own ∷ [])) (sym is) (refusal-causes m refused own (ap (λ (e : Entry). e.outcome) none.entry_is) (place-short m file p q at n refused t));
         part = record { some = some; refused = refused; entry_is = none.entry_is ∙ ap (λ k. entry_by p.caller (Preallocate at k) (Refused refused)) n_is; fault_is = is };
       }
 
@@ -110,7 +138,7 @@ parts-then caller to from at (x ∷ entries) e (first, rest) one = (first, parts
 -- no part is none, and one more part is one more
 module _ (m : MountView) (file : FileId) (to from : ℕ) where
   pub none-allocated : (p : PassView) → IsPassOf m p → HasAllocated m file to from from p p 0
-  none-allocated p of = record { acts = []; steps = λ lane. steps-none m file allocates lane p of; parts = refl; count_is = refl; few = omega arith }
+  none-allocated p of = record { acts = []; steps = λ lane. steps-none m file allocates lane p of; parts = refl; stays = All-nil (StaysInStripe m file); count_is = refl; few = omega arith }
 
   caller-kept : (at count : ℕ) (p q : PassView) → HasAllocated m file to from at p q count → q.caller ≡ p.caller
   caller-kept at count p q so = acted-caller so.acts p q (so.steps some_lane).did.acted
@@ -127,6 +155,7 @@ module _ (m : MountView) (file : FileId) (to from : ℕ) where
         acts = so.acts ++ one.acts;
         steps = λ lane. steps-then m file allocates lane lane lane p q r so.acts one.acts (so.steps lane) (one.steps lane);
         parts = subst (GiveParts p.caller to from (stripe_end to at)) (sym entries) (parts-then p.caller to from at (own_entries so.acts) one.entry so.parts part);
+        stays = All-append (StaysInStripe m file) so.acts one.acts so.stays one.stays;
         count_is = counted ∙ ap all_taken (sym entries);
         few = omega (arith, was, now, low, below);
       }
@@ -137,6 +166,8 @@ module _ (m : MountView) (file : FileId) (to from : ℕ) where
     acts = so.acts;
     steps = so.steps;
     comes = record { given = own_entries so.acts; last = []; at = at; entries_are = sym (append-nil (own_entries so.acts)); parts = so.parts; ends = (refl, ends) };
+    stays = so.stays;
+    cause = tt;
     count = (so.count_is, subst (λ k. count ≤ k - from) ends so.few);
   }
 
@@ -153,6 +184,8 @@ module _ (m : MountView) (file : FileId) (to from : ℕ) where
       parts = so.parts;
       ends = (one.entry, refl, subst (λ c. RefusesPart c to at one.entry fault) (caller-kept at count p q so) one.part);
     };
+    stays = All-append (StaysInStripe m file) so.acts one.acts so.stays one.stays;
+    cause = subst (λ l. IsCaused m l fault) (sym (own_entries-append so.acts one.acts)) (caused-right m (own_entries so.acts) (own_entries one.acts) fault one.cause);
     count = tt;
   }
 
@@ -185,22 +218,35 @@ no-loans caller to from came entries comes =
     let sum = total-append lendings comes.given comes.last in
     ap (total lendings) comes.entries_are ∙ (let none : total lendings (comes.given ++ comes.last) ≡ 0 = omega (arith, given, last, sum) in none)
 
--- a refusal causes the fault that tells it
-refusal-causes : (refused : EventFault) (own : Entry) → own.outcome ≡ Refused refused → IsCaused (own ∷ []) (space_fault refused)
-refusal-causes (refusal.Worn cookie) own is = (0, own, refl, is)
-refusal-causes (refusal.NoSpace wanted found) own is = (0, own, refl, is)
-refusal-causes refusal.NoMemory own is = tt
-refusal-causes (refusal.Stale sample now) own is = tt
-refusal-causes (refusal.Away block ticket) own is = tt
-refusal-causes (refusal.Cold block) own is = tt
-refusal-causes (refusal.Settled block) own is = tt
-refusal-causes (refusal.Unattached block) own is = tt
-refusal-causes (refusal.Dirty block) own is = tt
-refusal-causes (refusal.Poison done) own is = tt
+-- a run of blocks that is in one stripe is in the stripe of each of its blocks
+run-stripe : (m : MountView) (file : FileId) (stripe from blocks b : ℕ) → stripe ≡ stripe_at m file from → from % 64 + blocks ≤ 64 → from ≤ b → b < from + blocks → stripe ≡ stripe_at m file b
+run-stripe m file stripe from blocks b is fits low high = is ∙ (let same : from / 64 ≡ b / 64 = omega (arith, fits, low, high) in ap (λ k. (file_at m file).stripe + k) same)
 
-pub fault-caused : (caller to from : ℕ) (fault : Fault) (entries : List Entry) → ComesTo caller to from (Err fault) entries → IsCaused entries fault
-fault-caused caller to from fault entries comes =
-    let e = comes.ends.0 in
-    let refused = comes.ends.2 in
-    subst (λ l. IsCaused l fault) (sym (comes.entries_are ∙ ap (λ l. comes.given ++ l) comes.ends.1))
-    (caused-right comes.given (e ∷ []) fault (subst (IsCaused (e ∷ [])) (sym refused.fault_is) (refusal-causes refused.refused e (ap (λ (x : Entry). x.outcome) refused.entry_is))))
+module _ (m : MountView) (file : FileId) (caller b : ℕ) where
+  -- an entry that gave space to a block stands at the stripe of the block
+  here-given : (stripe : ℕ) (own : Entry) → IsInStripe m file stripe own.event → IsGivenBy caller b own → stripe ≡ stripe_at m file b
+  here-given stripe own stays given =
+      let at : IsInStripe m file stripe (Preallocate given.from given.blocks) = subst (IsInStripe m file stripe) (ap (λ (e : Entry). e.event) given.entry_is) stays in
+      run-stripe m file stripe given.from given.blocks b at.0 at.1 given.low given.high
+
+  there-given : (stripe : ℕ) (own : Entry) (more : List Entry) → stripe ≡ stripe_at m file b → IsGivenBy caller b own → HasOne (IsGivenBy caller b) ((if stripe == stripe_at m file b then own ∷ [] else []) ++ more)
+  there-given stripe own more same given = subst (λ t. HasOne (IsGivenBy caller b) ((if t then own ∷ [] else []) ++ more)) (sym (eq-eqb stripe (stripe_at m file b) same)) (0, own, refl, given)
+
+  pub given-where : (acts : List Act) → All (StaysInStripe m file) acts → HasOne (IsGivenBy caller b) (own_entries acts) → HasOne (IsGivenBy caller b) (made_in (stripe_at m file b) acts)
+  given-where [] stays given = given
+  given-where (Turn stripe others own ∷ acts) stays (zero, e, at, given) =
+      let same : own ≡ e = cc in
+      let mine = subst (IsGivenBy caller b) (sym same) given in
+      there-given stripe own (made_in (stripe_at m file b) acts) (here-given stripe own (All-head (StaysInStripe m file) (Turn stripe others own) acts stays) mine) mine
+  given-where (Turn stripe others own ∷ acts) stays (suc i, e, at, given) =
+      one-right (IsGivenBy caller b) (if stripe == stripe_at m file b then own ∷ [] else []) (made_in (stripe_at m file b) acts) (given-where acts (All-tail (StaysInStripe m file) (Turn stripe others own) acts stays) (i, e, at, given))
+  given-where (SizeTurn cell others own ∷ acts) stays given = given-where acts (All-tail (StaysInStripe m file) (SizeTurn cell others own) acts stays) given
+  given-where (Busy stripe word ∷ acts) stays given = given-where acts (All-tail (StaysInStripe m file) (Busy stripe word) acts stays) given
+  given-where (Open stripe ∷ acts) stays given = given-where acts (All-tail (StaysInStripe m file) (Open stripe) acts stays) given
+  given-where (Close stripe ∷ acts) stays given = given-where acts (All-tail (StaysInStripe m file) (Close stripe) acts stays) given
+  given-where (Take at c before after ∷ acts) stays given = given-where acts (All-tail (StaysInStripe m file) (Take at c before after) acts stays) given
+  given-where (Denied at c before after ∷ acts) stays given = given-where acts (All-tail (StaysInStripe m file) (Denied at c before after) acts stays) given
+  given-where (Leave at c before after ∷ acts) stays given = given-where acts (All-tail (StaysInStripe m file) (Leave at c before after) acts stays) given
+  given-where (Run bios ∷ acts) stays given = given-where acts (All-tail (StaysInStripe m file) (Run bios) acts stays) given
+  given-where (Note begun ∷ acts) stays given = given-where acts (All-tail (StaysInStripe m file) (Note begun) acts stays) given
+  given-where (Number call ∷ acts) stays given = given-where acts (All-tail (StaysInStripe m file) (Number call) acts stays) given

@@ -7,6 +7,7 @@ use Rattle.std.proofs.lemmas.List.{drop-replicate, length-append, length-replica
 use Rattle.std.proofs.lemmas.List.Elements.{All-append, All-cons, All-head, All-nil, All-tail, All-weaker}
 use Rattle.std.proofs.Math.Nat.{lt-div-mul-add, mul-mod_left}
 use Rattle.iob_base.specs.declared.stamp.FileId.{FileId}
+use Rattle.iob_base.specs.declared.stamp.Mode.{Mode}
 use Rattle.iob_base.specs.declared.stamp.Tag.{Tag}
 use Rattle.fault_device.specs.LaneView.{LaneView}
 use Rattle.range_core.specs.Stamps.{done_by}
@@ -15,7 +16,7 @@ use Rattle.range_core.specs.declared.entry.Event.{Event}
 use Rattle.range_core.specs.declared.entry.Event.TheVariants as event
 use Rattle.range_core.specs.declared.entry.Outcome.{Outcome}
 use Rattle.range_core.specs.declared.entry.Outcome.TheVariants as outcome
-use Rattle.mount_parts.specs.MountView.{MountView}
+use Rattle.mount_parts.specs.MountView.{MountView, file_at}
 use Rattle.mini_fs.specs.Acts.{Act, own_entries}
 use Rattle.mini_fs.specs.PassView.{IsPassOf, PassView}
 use Rattle.mini_fs.proofs.CallLemmas.{own_entries-append}
@@ -26,6 +27,9 @@ use Rattle.buffered_write.specs.Clears.{Clears, ClearsOnly, IsOfClearing, LieInP
 use Rattle.buffered_write.specs.Lays.{FollowOn, HasLaid, Laid, LieOn, Meet, bytes_laid, laid_by, laid_in}
 use Rattle.buffered_write.specs.Pwrites.{followed, progress}
 use Rattle.buffered_write.specs.Zeroes.{may_zero}
+use Rattle.call_parts.specs.Budgets.{IsSound}
+use Rattle.buffered_write.specs.PartReads.{ReadsInPart}
+use Rattle.buffered_write.proofs.PartReadLemmas.{part-reads, quiet-reads, reads-then, rest-reads}
 use Rattle.buffered_write.proofs.LayLemmas.{acts-then, laid-then, lie-none}
 
 -- a number between two multiples
@@ -43,6 +47,7 @@ module _ (m : MountView) (may might : Event → Bool) (file : FileId) (by : Tag)
     stamps = h.stamps;
     cause = h.cause;
     bios = h.bios;
+    dry = h.dry;
   }
 
 -- what a part of a range does to blocks, the range does
@@ -73,10 +78,11 @@ both-parts size from to all one two is first later =
 
 module _ (m : MountView) (file : FileId) (by : Tag) where
   -- a part of a range was cleared from its begin on
-  pub clears-longer : (from next to : ℕ) (a b : LaneView) (p q : PassView) (came : Progress) → next ≤ to → (next ≡ to) ⊎ (next % m.geometry.block_size ≡ 0) → came.at ≤ next → Clears m file by from next a b p q came → Clears m file by from to a b p q came
-  clears-longer from next to a b p q came high ends reach c = record {
-    laid = laid-zeros m (may_clear by) (may_clear by) file by from a b p q came (next - from) (to - from) (λ e may. may) (omega (arith, reach)) (omega (arith, reach, high)) c.laid;
+  pub clears-longer : (from next to : ℕ) (a b : LaneView) (p q : PassView) (came : Progress) → 0 < m.geometry.block_size → from < next → next ≤ to → (next ≡ to) ⊎ (next % m.geometry.block_size ≡ 0) → came.at ≤ next → Clears m file by from next a b p q came → Clears m file by from to a b p q came
+  clears-longer from next to a b p q came some less high ends reach c = record {
+    laid = laid-zeros m (may_clear (file_at m file).mode by) (may_clear (file_at m file).mode by) file by from a b p q came (next - from) (to - from) (λ e may. may) (omega (arith, reach)) (omega (arith, reach, high)) c.laid;
     parts = parts-wider m.geometry.block_size from from next to (omega arith) high (inl refl) ends (own_entries c.laid.acts) c.parts;
+    few = part-reads m file from from next to some less high (inl refl) (elim ends [ inl e ↦ inr (inl e) | inr e ↦ inr (inr e) ]) (le_refl from) came.fault c.laid.acts c.few;
   }
 
   -- nothing was cleared
@@ -86,14 +92,16 @@ module _ (m : MountView) (file : FileId) (by : Tag) where
       record {
         laid = record {
           acts = [];
-          steps = steps-none m file (may_clear by) lane p of;
+          steps = steps-none m file (may_clear (file_at m file).mode by) lane p of;
           begins = omega arith;
           laid = subst (λ n. LieOn from from (take n (replicate (to - from) 0)) []) (sym none) (lie-none from);
           stamps = sym (over-none m.geometry.block_size some (done_by by) from);
           cause = tt;
           bios = omega arith;
+          dry = λ dax. refl;
         };
         parts = All-nil (IsOfClearing m.geometry.block_size from to);
+        few = quiet-reads m file from to None [] (All-nil (λ (e : Entry). IsSound e.event)) refl;
       }
 
   -- the rest of a range was cleared behind its first bytes
@@ -105,36 +113,41 @@ module _ (m : MountView) (file : FileId) (by : Tag) where
       let left : to - from - (came.at - from) ≡ to - came.at = omega (arith, low) in
       let rest : replicate (to - came.at) 0 ≡ drop (came.at - from) (replicate (to - from) 0) = ap (λ n. replicate n 0) (sym left) ∙ sym (drop-replicate (came.at - from) (to - from) 0) in
       let meet : Meet size from came.at next.at = elim begins [ inl e ↦ inl e | inr e ↦ inr (inr e) ] in
-      let all = laid-then m (may_clear by) file by some from (replicate (to - from) 0) (replicate (to - came.at) 0) a b c p q r came next whole rest meet one.laid two.laid in
-      let acts : all.acts ≡ one.laid.acts ++ two.laid.acts = acts-then m (may_clear by) file by some from (replicate (to - from) 0) (replicate (to - came.at) 0) a b c p q r came next whole rest meet one.laid two.laid in
-      record { laid = all; parts = both-parts size from to all.acts one.laid.acts two.laid.acts acts one.parts (parts-wider size from came.at to to low (le_refl to) begins (inl refl) (own_entries two.laid.acts) two.parts) }
+      let all = laid-then m (may_clear (file_at m file).mode by) file by some from (replicate (to - from) 0) (replicate (to - came.at) 0) a b c p q r came next whole rest meet one.laid two.laid in
+      let acts : all.acts ≡ one.laid.acts ++ two.laid.acts = acts-then m (may_clear (file_at m file).mode by) file by some from (replicate (to - from) 0) (replicate (to - came.at) 0) a b c p q r came next whole rest meet one.laid two.laid in
+      record {
+        laid = all;
+        parts = both-parts size from to all.acts one.laid.acts two.laid.acts acts one.parts (parts-wider size from came.at to to low (le_refl to) begins (inl refl) (own_entries two.laid.acts) two.parts);
+        few = subst (ReadsInPart m file from to next.fault) (sym acts)
+            (reads-then m file from to next.fault one.laid.acts two.laid.acts (subst (λ f. ReadsInPart m file from to f one.laid.acts) whole one.few) (rest-reads m file from came.at to some low high begins next.fault two.laid.acts two.few));
+      }
 
 -- zeros that were laid from one place up to another, both in the first or last block of a range, are of its clearing
 module _ (size low high from to : ℕ) (in_part : (x y : ℕ) → low ≤ x → y ≤ high → LieInPart size from to x y) where
-  one-part : (by : Tag) (e : Event) (o : Outcome) (more : List Laid) (at : ℕ) → IsTrue (may_zero by e) → low ≤ at → FollowOn at (laid_by size e o ++ more) → at + length (bytes_laid (laid_by size e o ++ more)) ≤ high
+  one-part : (mode : Mode) (by : Tag) (e : Event) (o : Outcome) (more : List Laid) (at : ℕ) → IsTrue (may_zero mode by e) → low ≤ at → FollowOn at (laid_by size e o ++ more) → at + length (bytes_laid (laid_by size e o ++ more)) ≤ high
       → ClearsOnly size from to e o × ((next : ℕ) × (low ≤ next) × FollowOn next more × (next + length (bytes_laid more) ≤ high))
-  one-part by (event.StoreZeros who seen x y) outcome.Finished more at may after (same, order) reach =
+  one-part mode by (event.StoreZeros who seen x y) outcome.Finished more at may after (same, order) reach =
       let long = length-append (replicate (y - x) 0) (bytes_laid more) in
       let many : length (replicate {A = ℕ} (y - x) 0) ≡ y - x = length-replicate {A = ℕ} (y - x) 0 in
       (in_part x y (omega (arith, same, after)) (omega (arith, same, long, many, reach)), (at + length (replicate (y - x) 0), omega (arith, after), order, omega (arith, long, reach)))
-  one-part by (event.DaxZero who seen x y) outcome.Finished more at may after (same, order) reach =
+  one-part mode by (event.DaxZero who seen x y) outcome.Finished more at may after (same, order) reach =
       let long = length-append (replicate (y - x) 0) (bytes_laid more) in
       let many : length (replicate {A = ℕ} (y - x) 0) ≡ y - x = length-replicate {A = ℕ} (y - x) 0 in
       (in_part x y (omega (arith, same, after)) (omega (arith, same, long, many, reach)), (at + length (replicate (y - x) 0), omega (arith, after), order, omega (arith, long, reach)))
-  one-part by (event.Store who seen x y bytes) o more at may after order reach = absurd (false≢true may)
-  one-part by (event.Wipe who block blocks) o more at may after order reach = absurd (false≢true may)
-  one-part by e o more at may after order reach = (tt, (at, after, order, reach))
+  one-part mode by (event.Store who seen x y bytes) o more at may after order reach = absurd (false≢true may)
+  one-part mode by (event.Wipe who block blocks) o more at may after order reach = absurd (false≢true may)
+  one-part mode by e o more at may after order reach = (tt, (at, after, order, reach))
 
-  pub zeros-only : (by : Tag) (entries : List Entry) (at : ℕ) → All (λ e. IsTrue (may_zero by e.event)) entries → low ≤ at → FollowOn at (laid_in size entries) → at + length (bytes_laid (laid_in size entries)) ≤ high → All (IsOfClearing size from to) entries
-  zeros-only by [] at made after order reach = All-nil (IsOfClearing size from to)
-  zeros-only by (e ∷ entries) at made after order reach =
-      let one = one-part by e.event e.outcome (laid_in size entries) at (All-head (λ (e : Entry). IsTrue (may_zero by e.event)) e entries made) after order reach in
+  pub zeros-only : (mode : Mode) (by : Tag) (entries : List Entry) (at : ℕ) → All (λ e. IsTrue (may_zero mode by e.event)) entries → low ≤ at → FollowOn at (laid_in size entries) → at + length (bytes_laid (laid_in size entries)) ≤ high → All (IsOfClearing size from to) entries
+  zeros-only mode by [] at made after order reach = All-nil (IsOfClearing size from to)
+  zeros-only mode by (e ∷ entries) at made after order reach =
+      let one = one-part mode by e.event e.outcome (laid_in size entries) at (All-head (λ (e : Entry). IsTrue (may_zero mode by e.event)) e entries made) after order reach in
       let rest = one.1 in
-      All-cons (IsOfClearing size from to) e entries one.0 (zeros-only by entries rest.0 (All-tail (λ (e : Entry). IsTrue (may_zero by e.event)) e entries made) rest.1 rest.2 rest.3)
+      All-cons (IsOfClearing size from to) e entries one.0 (zeros-only mode by entries rest.0 (All-tail (λ (e : Entry). IsTrue (may_zero mode by e.event)) e entries made) rest.1 rest.2 rest.3)
 
-pub zero-clears : (by : Tag) (e : Event) → IsTrue (may_zero by e) → IsTrue (may_clear by e)
-zero-clears by (event.Wipe who block blocks) may = absurd (false≢true may)
-zero-clears by e may = may
+pub zero-clears : (mode : Mode) (by : Tag) (e : Event) → IsTrue (may_zero mode by e) → IsTrue (may_clear mode by e)
+zero-clears mode by (event.Wipe who block blocks) may = absurd (false≢true may)
+zero-clears mode by e may = may
 
 -- The part of a range that begins at a place ends there
 pub record IsCut (size to at next : ℕ) : Type 0 where

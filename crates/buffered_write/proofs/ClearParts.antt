@@ -1,6 +1,6 @@
 -- What the parts of a clearing tell of it, each in turn.
-use Rattle.std.proofs.Common.{inl, inr, ◌≡◌, ℕ, ◌+◌, ◌-◌, ◌*◌, ◌<◌, ◌≤◌, List, length, true, false, Some, None, refl, sym, ap, ◌∙◌, subst, arith, le_of_lt, le_of_mul-le-mul_right}
-use Rattle.std.specs.Prelude.{◌⊎◌, ◌/◌, ◌%◌, Option, is_none, is_some, replicate}
+use Rattle.std.proofs.Common.{inl, inr, ◌≡◌, ℕ, ◌+◌, ◌-◌, ◌*◌, ◌<◌, ◌≤◌, List, length, true, false, Some, None, refl, sym, ap, ◌∙◌, subst, arith, le_of_lt, le_of_mul-le-mul_right, le_refl}
+use Rattle.std.specs.Prelude.{◌⊎◌, ◌/◌, ◌%◌, Option, is_none, is_some}
 use Rattle.std.proofs.lemmas.Bool.{false≢true}
 use Rattle.iob_base.specs.declared.answer.Fault.{Fault}
 use Rattle.iob_base.specs.declared.stamp.FileId.{FileId}
@@ -12,9 +12,11 @@ use Rattle.mini_fs.specs.Mappings.{file_end}
 use Rattle.mini_fs.specs.PassView.{PassView}
 use Rattle.call_parts.specs.declared.progress.Progress.{Progress}
 use Rattle.buffered_write.specs.Clears.{Clears, IsRunOf, WipesTo, block_end, clear_end, covers_block, may_clear, whole_blocks, wiped_to}
-use Rattle.buffered_write.specs.Lays.{EndsAt, GoesAt, HasLaid}
+use Rattle.buffered_write.specs.Lays.{EndsAt, GoesAt, Meet}
 use Rattle.buffered_write.specs.Pwrites.{followed, progress}
-use Rattle.buffered_write.specs.Zeroes.{may_zero}
+use Rattle.buffered_write.specs.Zeroes.{Zeroes, may_zero}
+use Rattle.buffered_write.proofs.PartReadLemmas.{part-reads}
+use Rattle.buffered_write.proofs.ZeroPartLemmas.{laid-of, zeroes-within}
 use Rattle.buffered_write.proofs.ClearLemmas.{IsCut, block-cut, block-part, clear-cut, clears-longer, clears-none, clears-then, laid-zeros, whole-begins, whole-cut, whole-end, whole-some, whole-within, zero-clears, zeros-only}
 use Rattle.buffered_write.proofs.WriteLemmas.{ends-high, ends-part, not-there}
 
@@ -44,7 +46,7 @@ module _ (m : MountView) (file : FileId) (by : Tag) where
         let begin = whole-begins size to at some less covers in
         let end = whole-end size to at some less covers in
         let here : Clears m file by at (at + n * size) lane lane p q came = subst (λ k. Clears m file by k (at + n * size) lane lane p q came) begin (subst (λ k. Clears m file by (at / size * size) k lane lane p q came) end (wiped lane)) in
-        clears-longer m file by at (at + n * size) to lane lane p q came cut.within cut.ends reach here
+        clears-longer m file by at (at + n * size) to lane lane p q came some cut.some cut.within cut.ends reach here
 
     module _ (size n : ℕ) (size_is : size ≡ m.geometry.block_size) (n_is : n ≡ whole_blocks size to at) (covers : covers_block m.geometry.block_size to at ≡ true) where
       n-whole : n ≡ whole_blocks m.geometry.block_size to at
@@ -71,17 +73,21 @@ module _ (m : MountView) (file : FileId) (by : Tag) where
 
     -- the bytes of a block that is covered in part were zeroed
     pub part-clears : covers_block m.geometry.block_size to at ≡ false → (next : ℕ) (a b : LaneView) (p q : PassView) (came : Progress) → next ≡ block_end m.geometry.block_size to at → EndsAt m.geometry.block_size at next came.at came.fault false
-        → HasLaid m (may_zero by) file by at (replicate (next - at) 0) a b p q came → Clears m file by at to a b p q came
-    part-clears covers next a b p q came is ends h =
+        → Zeroes m file by at next a b p q came → Clears m file by at to a b p q came
+    unfolding zeroes-within laid-of
+    part-clears covers next a b p q came is ends z =
         let size = m.geometry.block_size in
         let cut = block-cut size to at some less covers in
         let inside = cut.within in
         let high = ends-high size at next came.at came.fault false ends in
+        let h = zeroes-within m file by at next a b p q came high z in
         let low = h.begins in
+        let begun = cut.some in
         let entries = own_entries h.acts in
         record {
-          laid = laid-zeros m (may_zero by) (may_clear by) file by at a b p q came (next - at) (to - at) (zero-clears by) (omega (arith, high)) (omega (arith, high, inside, is)) h;
-          parts = zeros-only size at next at to (λ x y after before. block-part size to at some less covers x y after (omega (arith, before, is))) by entries at h.steps.did.made (omega arith) h.laid.order (laid-reach h.laid.reach h.laid.together high);
+          laid = laid-zeros m (may_zero (file_at m file).mode by) (may_clear (file_at m file).mode by) file by at a b p q came (next - at) (to - at) (zero-clears (file_at m file).mode by) (omega (arith, high)) (omega (arith, high, inside, is)) h;
+          parts = zeros-only size at next at to (λ x y after before. block-part size to at some less covers x y after (omega (arith, before, is))) (file_at m file).mode by entries at h.steps.did.made (omega arith) h.laid.order (laid-reach h.laid.reach h.laid.together high);
+          few = part-reads m file at at next to some (omega (arith, begun, is)) (omega (arith, inside, is)) (inl refl) (subst (λ n. Meet size at n to) (sym is) (elim cut.ends [ inl e ↦ inr (inl e) | inr e ↦ inr (inr e) ])) (le_refl at) came.fault z.laid.acts z.few;
         }
       where
         laid-reach : {n : ℕ} {xs : List ℕ} {ys : List ℕ} → at + length xs ≡ n → ys ≡ xs → n ≤ next → at + length ys ≤ next

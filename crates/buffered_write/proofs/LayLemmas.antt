@@ -2,6 +2,7 @@
 use Rattle.std.proofs.Common.{inl, inr, ◌≡◌, ℕ, ◌+◌, ◌-◌, ◌<◌, ◌≤◌, ◌++◌, ◌∷◌, [], List, min, length, take, drop, refl, sym, ap, ◌∙◌, subst, arith, append-nil, append_assoc, length-append}
 use Rattle.std.specs.Prelude.{◌^◌, ◌%◌, Bool, IfSome, IsTrue, None, Option, Some}
 use Rattle.std.proofs.lemmas.Bool.{cases_eq}
+use Rattle.std.proofs.lemmas.List.Elements.{All-append}
 use Rattle.std.proofs.Math.Seq.{take-add}
 use Rattle.iob_base.specs.declared.answer.Fault.{Fault}
 use Rattle.iob_base.specs.declared.stamp.FileId.{FileId}
@@ -14,12 +15,13 @@ use Rattle.range_core.specs.Stamps.{done_by}
 use Rattle.range_core.specs.declared.entry.Entry.{Entry}
 use Rattle.range_core.specs.declared.entry.Event.{Event}
 use Rattle.mount_parts.specs.MountView.{MountView}
-use Rattle.mini_fs.specs.Acts.{own_entries}
+use Rattle.mini_fs.specs.Acts.{Act, own_entries}
 use Rattle.mini_fs.specs.CallActs.{loans_in}
 use Rattle.mini_fs.specs.PassView.{PassView}
 use Rattle.mini_fs.proofs.CallLemmas.{loans-append, own_entries-append}
+use Rattle.call_parts.specs.Budgets.{AreSound, IsSound}
 use Rattle.call_parts.specs.Causes.{IsCaused}
-use Rattle.buffered_write.specs.Lays.{FollowOn, HasLaid, Laid, Meet, LaysNothing, LieOn, bytes_laid, laid_by, laid_in}
+use Rattle.buffered_write.specs.Lays.{FollowOn, HasLaid, IsDry, Laid, Meet, LaysNothing, LieOn, bytes_laid, laid_by, laid_in}
 use Rattle.call_parts.specs.Parts.{stamps_over}
 use Rattle.buffered_write.specs.Pwrites.{followed, progress}
 use Rattle.call_parts.specs.declared.progress.Progress.{Progress}
@@ -72,13 +74,17 @@ module _ (size : ℕ) (some : 0 < size) (stamp : Stamp) where
       border n k (inr (inr e)) = e
 
 -- the bios of two steps
-bios-both : (a b m n : ℕ) → a ≡ min m (2 ^ 64 - 1) → b ≡ min n (2 ^ 64 - 1) → min (a + b) (2 ^ 64 - 1) ≡ min (m + n) (2 ^ 64 - 1)
+pub bios-both : (a b m n : ℕ) → a ≡ min m (2 ^ 64 - 1) → b ≡ min n (2 ^ 64 - 1) → min (a + b) (2 ^ 64 - 1) ≡ min (m + n) (2 ^ 64 - 1)
 bios-both a b m n one two = omega (arith, one, two)
 
+-- two steps that lent nothing lent nothing
+pub dry-both : (m : MountView) (file : FileId) (acts more : List Act) → IsDry m file acts → IsDry m file more → IsDry m file (acts ++ more)
+dry-both m file acts more first later dax = (let all = loans-append acts more in let a = first dax in let b = later dax in omega (arith, all, a, b))
+
 -- a cause of the last step is one of the whole
-caused-last : (before after : List Entry) (fault : Option Fault) → IfSome fault (IsCaused after) → IfSome fault (IsCaused (before ++ after))
-caused-last before after None cause = tt
-caused-last before after (Some fault) cause = caused-right before after fault cause
+pub caused-last : (m : MountView) (before after : List Entry) (fault : Option Fault) → IfSome fault (IsCaused m after) → IfSome fault (IsCaused m (before ++ after))
+caused-last m before after None cause = tt
+caused-last m before after (Some fault) cause = caused-right m before after fault cause
 
 module _ (m : MountView) (may : Event → Bool) (file : FileId) where
   -- steps that lay nothing, one after another
@@ -91,13 +97,15 @@ module _ (m : MountView) (may : Event → Bool) (file : FileId) where
         steps = steps-then m file may a b c p q r one.acts two.acts one.steps two.steps;
         laid = ap (laid_in size) own ∙ laid-append size (own_entries one.acts) (own_entries two.acts) ∙ ap (λ l. l ++ laid_in size (own_entries two.acts)) one.laid ∙ two.laid;
         stamps = ap (stamps_in size) own ∙ stamps-append size (own_entries one.acts) (own_entries two.acts) ∙ ap (λ l. l ++ stamps_in size (own_entries two.acts)) one.stamps ∙ two.stamps;
-        cause = subst (λ l. IfSome fault (IsCaused l)) (sym own) (caused-last (own_entries one.acts) (own_entries two.acts) fault two.cause);
+        cause = subst (λ l. IfSome fault (IsCaused m l)) (sym own) (caused-last m (own_entries one.acts) (own_entries two.acts) fault two.cause);
         sent = bios-both bios sent (loans_in one.acts) (loans_in two.acts) one.sent two.sent ∙ ap (λ n. min n (2 ^ 64 - 1)) (sym (loans-append one.acts two.acts));
+        sound = λ none. subst AreSound (sym own) (All-append (λ (e : Entry). IsSound e.event) (own_entries one.acts) (own_entries two.acts) (one.sound (omega (arith, none))) (two.sound (omega (arith, none))));
+        dry = dry-both m file one.acts two.acts one.dry two.dry;
       }
 
   module _ (by : Tag) (some : 0 < m.geometry.block_size) where
     -- a step that lays nothing lays the bytes from a place up to itself
-    pub laid-nothing : (from : ℕ) (bytes : List ℕ) (a b : LaneView) (p q : PassView) (bios : ℕ) (fault : Option Fault) → LaysNothing m may file a b p q bios fault → HasLaid m may file by from bytes a b p q (progress from bios fault)
+    unfoldable pub laid-nothing : (from : ℕ) (bytes : List ℕ) (a b : LaneView) (p q : PassView) (bios : ℕ) (fault : Option Fault) → LaysNothing m may file a b p q bios fault → HasLaid m may file by from bytes a b p q (progress from bios fault)
     laid-nothing from bytes a b p q bios fault step =
         let zero_long : from - from ≡ 0 = omega arith in
         record {
@@ -108,10 +116,11 @@ module _ (m : MountView) (may : Event → Bool) (file : FileId) where
           stamps = step.stamps ∙ sym (over-none m.geometry.block_size some (done_by by) from);
           cause = step.cause;
           bios = step.sent;
+          dry = step.dry;
         }
 
     -- bytes laid up to a place, and those from there on
-    pub laid-then : (from : ℕ) (bytes more : List ℕ) (a b c : LaneView) (p q r : PassView) (came next : Progress) → came.fault ≡ None → more ≡ drop (came.at - from) bytes → Meet m.geometry.block_size from came.at next.at
+    unfoldable pub laid-then : (from : ℕ) (bytes more : List ℕ) (a b c : LaneView) (p q r : PassView) (came next : Progress) → came.fault ≡ None → more ≡ drop (came.at - from) bytes → Meet m.geometry.block_size from came.at next.at
         → HasLaid m may file by from bytes a b p q came → HasLaid m may file by came.at more b c q r next → HasLaid m may file by from bytes a c p r (followed came next)
     laid-then from bytes more a b c p q r came next whole rest meet one two =
         let size = m.geometry.block_size in
@@ -131,13 +140,14 @@ module _ (m : MountView) (may : Event → Bool) (file : FileId) where
           stamps = ap (stamps_in size) own ∙ stamps-append size (own_entries one.acts) (own_entries two.acts)
               ∙ ap (λ l. l ++ stamps_in size (own_entries two.acts)) one.stamps ∙ ap (λ l. stamps_over size (span from came.at) (done_by by) ++ l) two.stamps
               ∙ over-meet size some (done_by by) from came.at next.at low high meet;
-          cause = subst (λ l. IfSome next.fault (IsCaused l)) (sym own) (caused-last (own_entries one.acts) (own_entries two.acts) next.fault two.cause);
+          cause = subst (λ l. IfSome next.fault (IsCaused m l)) (sym own) (caused-last m (own_entries one.acts) (own_entries two.acts) next.fault two.cause);
           bios = bios-both came.bios next.bios (loans_in one.acts) (loans_in two.acts) one.bios two.bios ∙ ap (λ n. min n (2 ^ 64 - 1)) (sym (loans-append one.acts two.acts));
+          dry = dry-both m file one.acts two.acts one.dry two.dry;
         }
 
 module _ (m : MountView) (file : FileId) (may might : Event → Bool) (wider : (e : Event) → IsTrue (may e) → IsTrue (might e)) where
   -- a step that lays nothing and may make only such events is one that may make more
-  pub nothing-may : (a b : LaneView) (p q : PassView) (bios : ℕ) (fault : Option Fault) → LaysNothing m may file a b p q bios fault → LaysNothing m might file a b p q bios fault
+  unfoldable pub nothing-may : (a b : LaneView) (p q : PassView) (bios : ℕ) (fault : Option Fault) → LaysNothing m may file a b p q bios fault → LaysNothing m might file a b p q bios fault
   nothing-may a b p q bios fault n = record {
     acts = n.acts;
     steps = steps-may m file may might a b p q n.acts wider n.steps;
@@ -145,15 +155,17 @@ module _ (m : MountView) (file : FileId) (may might : Event → Bool) (wider : (
     stamps = n.stamps;
     cause = n.cause;
     sent = n.sent;
+    sound = n.sound;
+    dry = n.dry;
   }
 
 module _ (m : MountView) (may : Event → Bool) (file : FileId) (by : Tag) where
-  caused-first : (before after : List Entry) (fault : Option Fault) → IfSome fault (IsCaused before) → IfSome fault (IsCaused (before ++ after))
+  pub caused-first : (before after : List Entry) (fault : Option Fault) → IfSome fault (IsCaused m before) → IfSome fault (IsCaused m (before ++ after))
   caused-first before after None cause = tt
-  caused-first before after (Some fault) cause = caused-left before after fault cause
+  caused-first before after (Some fault) cause = caused-left m before after fault cause
 
   -- a step that lays nothing behind bytes that were laid leaves what they came to, and their fault
-  pub laid-quiet : (from : ℕ) (bytes : List ℕ) (a b c : LaneView) (p q r : PassView) (came : Progress) → HasLaid m may file by from bytes a b p q came → LaysNothing m may file b c q r 0 None → HasLaid m may file by from bytes a c p r came
+  unfoldable pub laid-quiet : (from : ℕ) (bytes : List ℕ) (a b c : LaneView) (p q r : PassView) (came : Progress) → HasLaid m may file by from bytes a b p q came → LaysNothing m may file b c q r 0 None → HasLaid m may file by from bytes a c p r came
   laid-quiet from bytes a b c p q r came one n =
       let size = m.geometry.block_size in
       let own = own_entries-append one.acts n.acts in
@@ -166,8 +178,9 @@ module _ (m : MountView) (may : Event → Bool) (file : FileId) (by : Tag) where
         laid = subst (λ l. LieOn from came.at (take (came.at - from) bytes) l)
             (sym (ap (laid_in size) own ∙ laid-append size (own_entries one.acts) (own_entries n.acts) ∙ ap (λ l. laid_in size (own_entries one.acts) ++ l) n.laid ∙ append-nil (laid_in size (own_entries one.acts)))) one.laid;
         stamps = ap (stamps_in size) own ∙ stamps-append size (own_entries one.acts) (own_entries n.acts) ∙ ap (λ l. stamps_in size (own_entries one.acts) ++ l) n.stamps ∙ append-nil (stamps_in size (own_entries one.acts)) ∙ one.stamps;
-        cause = subst (λ l. IfSome came.fault (IsCaused l)) (sym own) (caused-first (own_entries one.acts) (own_entries n.acts) came.fault one.cause);
+        cause = subst (λ l. IfSome came.fault (IsCaused m l)) (sym own) (caused-first (own_entries one.acts) (own_entries n.acts) came.fault one.cause);
         bios = one.bios ∙ ap (λ k. min k (2 ^ 64 - 1)) (let z : loans_in one.acts ≡ loans_in (one.acts ++ n.acts) = (let h = loans-append one.acts n.acts in omega (arith, h, none)) in z);
+        dry = dry-both m file one.acts n.acts one.dry n.dry;
       }
 
 module _ (m : MountView) (may : Event → Bool) (file : FileId) (by : Tag) (some : 0 < m.geometry.block_size) (from : ℕ) (bytes more : List ℕ) (a b c : LaneView) (p q r : PassView) (came next : Progress) (whole : came.fault ≡ None) (rest : more ≡ drop (came.at - from) bytes)

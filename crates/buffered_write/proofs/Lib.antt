@@ -8,6 +8,7 @@ pub mod DataReplyLemmas
 pub mod LaidLemmas
 pub mod LayLemmas
 pub mod MappedLemmas
+pub mod PartReadLemmas
 pub mod PunchLemmas
 pub mod PwriteLemmas
 pub mod RoomLemmas
@@ -19,6 +20,7 @@ pub mod UnderLemmas
 pub mod WipeLemmas
 pub mod WriteLemmas
 pub mod WriteReplyLemmas
+pub mod ZeroBudgets
 pub mod ZeroCallLemmas
 pub mod ZeroLemmas
 pub mod ZeroPartLemmas

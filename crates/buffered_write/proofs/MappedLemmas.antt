@@ -18,6 +18,7 @@ use Rattle.mini_fs.specs.CallActs.{loans_in}
 use Rattle.mini_fs.specs.Mappings.{mapping_of}
 use Rattle.mini_fs.specs.PassView.{PassView}
 use Rattle.mini_fs.specs.declared.begun.Begun.{Begun}
+use Rattle.call_parts.specs.Budgets.{IsSound}
 use Rattle.call_parts.specs.Causes.{IsCaused}
 use Rattle.call_parts.specs.Maps.{maps}
 use Rattle.call_parts.specs.Steps.{IsQuiet, Steps, is_quiet}
@@ -45,9 +46,16 @@ maps-quiet writes (event.Reserve seen blocks) is = refl
 maps-quiet writes (event.Unreserve block blocks) is = refl
 maps-quiet writes e is = absurd (false≢true is)
 
+-- an event that maps brings no read back
+maps-sound : (writes : Bool) (e : Event) → IsTrue (maps writes e) → IsSound e
+maps-sound writes (event.Sample block most) is = tt
+maps-sound writes (event.Reserve seen blocks) is = tt
+maps-sound writes (event.Unreserve block blocks) is = tt
+maps-sound writes e is = absurd (false≢true is)
+
 module _ (m : MountView) (file : FileId) where
   -- a step that maps lays nothing
-  pub map-step : (writes : Bool) (lane : LaneView) (p q : PassView) (acts : List Act) (fault : Option Fault) → Steps m file (maps writes) lane lane p q acts → loans_in acts ≡ 0 → IfSome fault (IsCaused (own_entries acts)) → LaysNothing m (maps writes) file lane lane p q 0 fault
+  pub map-step : (writes : Bool) (lane : LaneView) (p q : PassView) (acts : List Act) (fault : Option Fault) → Steps m file (maps writes) lane lane p q acts → loans_in acts ≡ 0 → IfSome fault (IsCaused m (own_entries acts)) → LaysNothing m (maps writes) file lane lane p q 0 fault
   map-step writes lane p q acts fault steps none cause =
       let quiet : All IsQuiet (own_entries acts) = All-weaker (λ (e : Entry). IsTrue (maps writes e.event)) IsQuiet (λ e is. maps-quiet writes e.event is) (own_entries acts) steps.did.made in
       record {
@@ -57,6 +65,8 @@ module _ (m : MountView) (file : FileId) where
         stamps = quiet-stamps m.geometry.block_size (own_entries acts) quiet;
         cause = cause;
         sent = omega (arith, none);
+        sound = λ no. All-weaker (λ (e : Entry). IsTrue (maps writes e.event)) (λ (e : Entry). IsSound e.event) (λ e is. maps-sound writes e.event is) (own_entries acts) steps.did.made;
+        dry = λ dax. none;
       }
 
 module _ (m : MountView) (file : FileId) where

@@ -4,7 +4,7 @@ use Rattle.std.specs.Prelude.{◌&&◌, All, IfSome, IsTrue, Option, replicate}
 use Rattle.std.proofs.lemmas.Bool.{cases_eq, eq-eqb, eqb-true}
 use Rattle.std.proofs.lemmas.Bool.Decides.{nat_tests}
 use Rattle.std.proofs.lemmas.List.{take-replicate}
-use Rattle.std.proofs.lemmas.List.Elements.{All-nil}
+use Rattle.std.proofs.lemmas.List.Elements.{All-cons, All-nil}
 use Rattle.iob_base.specs.Geometry.{is_block_size}
 use Rattle.iob_base.specs.declared.answer.Answer.{Answer}
 use Rattle.iob_base.specs.declared.answer.Fault.{Fault}
@@ -34,7 +34,7 @@ use Rattle.mini_fs.specs.Tickets.{IsTicketOf, KeepsTickets}
 use Rattle.mini_fs.proofs.CallLemmas.{call-then}
 use Rattle.call_parts.specs.Parts.{read_to, stamps_over}
 use Rattle.call_parts.specs.Replies.{end_stop, read_reply}
-use Rattle.call_parts.specs.Steps.{ServedBy}
+use Rattle.call_parts.specs.Steps.{IsPlaced, ServedBy}
 use Rattle.call_parts.specs.declared.progress.Progress.{Progress}
 use Rattle.call_parts.proofs.NumberLemmas.{answered-so, call-numbered}
 use Rattle.call_parts.proofs.PartLemmas.{over-none}
@@ -48,6 +48,9 @@ use Rattle.buffered_write.specs.Punches.{IsPunched, IsSizeless, Punches}
 use Rattle.buffered_write.specs.Pwrites.{has_room}
 use Rattle.buffered_write.proofs.LaidLemmas.{held-after, laid-held, laid-so, leaves-call}
 use Rattle.buffered_write.proofs.DataReplyLemmas.{left-after}
+use Rattle.buffered_write.specs.PartReads.{KeepsBudget}
+use Rattle.buffered_write.proofs.PartReadLemmas.{budget-none, reads-behind}
+use Rattle.buffered_write.proofs.ZeroBudgets.{clear-budget}
 use Rattle.buffered_write.proofs.LayLemmas.{lie-none}
 use Rattle.buffered_write.proofs.WriteReplyLemmas.{room-empty, room-far, room-some}
 
@@ -114,18 +117,18 @@ module _ (m : MountView) (file : FileId) (by : Tag) (from to : ℕ) (a b : LaneV
   abbrev Unlocked : List Act → Type 0
   Unlocked acts = (lock_acts acts ≡ []) × (size_acts acts ≡ []) × All (IsOfClearing m.geometry.block_size from to) (own_entries acts)
 
-  unlocked : LaidWith Unlocked m (may_clear by) file by from (replicate (to - from) 0) a b p1 p2 came
-  unlocked = laid-so m (may_clear by) file by from (replicate (to - from) 0) a b came Unlocked p1 p2 c.laid (c.laid.steps.locks, c.laid.steps.sizes, c.parts)
+  unlocked : LaidWith Unlocked m (may_clear (file_at m file).mode by) file by from to (replicate (to - from) 0) a b p1 p2 came
+  unlocked = laid-so m (may_clear (file_at m file).mode by) file by from to (replicate (to - from) 0) a b came Unlocked p1 p2 c.laid (c.laid.steps.locks, c.laid.steps.sizes, c.parts) c.few
 
-  pub locked-punched : TakesOut (IsWon Exclusive) p file p1 h → KeepsTickets p p1 → BringsBack (IsLeft Exclusive) p2 h q → IsPassOf m q → KeepsTickets p2 q → LaidWith (IsPunched m file from to) m (may_clear by) file by from (replicate (to - from) 0) a b p q came
+  pub locked-punched : TakesOut (IsWon Exclusive) p file p1 h → KeepsTickets p p1 → BringsBack (IsLeft Exclusive) p2 h q → IsPassOf m q → KeepsTickets p2 q → LaidWith (IsPunched m file from to) m (may_clear (file_at m file).mode by) file by from to (replicate (to - from) 0) a b p q came
   locked-punched t first l of last =
-      laid-held m (may_clear by) file by from (replicate (to - from) 0) a b came Unlocked (IsSizeless m from to) p p1 p2 q h t first is unlocked unlocked.also.0 l of last
+      laid-held m (may_clear (file_at m file).mode by) file by from to (replicate (to - from) 0) a b came Unlocked (IsSizeless m from to) p p1 p2 q h t first is unlocked unlocked.also.0 l of last
       (λ more own sizes. (sizes ∙ unlocked.also.1, subst (All (IsOfClearing m.geometry.block_size from to)) (sym own) unlocked.also.2))
 
 module _ (m : MountView) (file : FileId) (call off asked : ℕ) (a b : LaneView) (p q : PassView) (answer : Answer) where
   -- a punch with bytes in the file
   pub punches-so : (to : ℕ) (came : Progress) → 0 < m.geometry.block_size → to ≡ read_to (file_end m file) off asked → off < to → IfSome came.fault StopsClear
-      → LaidWith (IsPunched m file off to) m (may_clear (tag_of p call)) file (tag_of p call) off (replicate (to - off) 0) a b (with_call p call) q came → EndsAt m.geometry.block_size off to came.at came.fault false
+      → LaidWith (IsPunched m file off to) m (may_clear (file_at m file).mode (tag_of p call)) file (tag_of p call) off to (replicate (to - off) 0) a b (with_call p call) q came → EndsAt m.geometry.block_size off to came.at came.fault false
       → answer.reply ≡ read_reply asked (to - off) (came.at - off) came.fault → answer.bios ≡ came.bios → Punches m file call off asked a b p q answer
   punches-so to came some to_is less stops w ends replied bios =
       let size = m.geometry.block_size in
@@ -141,8 +144,9 @@ module _ (m : MountView) (file : FileId) (call off asked : ℕ) (a b : LaneView)
         count = came.at - off;
         fault = came.fault;
         acts = Number call ∷ w.acts;
-        did = call-then m file (may_clear (tag_of p call)) p (with_call p call) q (Number call ∷ []) w.acts (call-numbered m file (may_clear (tag_of p call)) p call) w.did;
+        did = call-then m file (may_clear (file_at m file).mode (tag_of p call)) p (with_call p call) q (Number call ∷ []) w.acts (call-numbered m file (may_clear (file_at m file).mode (tag_of p call)) p call) w.did;
         callers = w.callers;
+        placed = All-cons (IsPlaced m file) (Number call) w.acts tt w.placed;
         run = w.run;
         lane = w.lane;
         class = subst (λ t. HoldsClass t file call (Number call ∷ w.acts)) (sym room) (let c = w.also.0 in record { home = c.home; held = c.held; next = c.next; work = c.work; acts_are = ap (λ l. Number call ∷ l) c.acts_are; locks = c.locks });
@@ -159,6 +163,9 @@ module _ (m : MountView) (file : FileId) (call off asked : ℕ) (a b : LaneView)
         cause = w.cause;
         stops = left-after size off to came.at came.fault low ends;
         bios = bios ∙ w.bios;
+        budget = subst (λ n. KeepsBudget m file off n p (Number call ∷ w.acts)) to_is
+            (clear-budget m file (tag_of p call) off to came.fault p (Number call ∷ w.acts) (reads-behind m file off to came.fault (Number call ∷ []) w.acts refl w.few) w.did.made);
+        dry = w.dry;
       }
     where
       reach : (size to at : ℕ) (f : Option Fault) → EndsAt size off to at f false → at - off ≤ to - off
@@ -183,8 +190,9 @@ module _ (m : MountView) (file : FileId) (call off asked : ℕ) (a b : LaneView)
         count = 0;
         fault = None;
         acts = Number call ∷ [];
-        did = subst (λ r. CallActs m file (may_clear (tag_of p call)) p r (Number call ∷ [])) (sym q_is) (call-numbered m file (may_clear (tag_of p call)) p call);
+        did = subst (λ r. CallActs m file (may_clear (file_at m file).mode (tag_of p call)) p r (Number call ∷ [])) (sym q_is) (call-numbered m file (may_clear (file_at m file).mode (tag_of p call)) p call);
         callers = All-nil (λ (e : Entry). e.caller ≡ p.caller);
+        placed = All-cons (IsPlaced m file) (Number call) [] tt (All-nil (IsPlaced m file));
         run = refl;
         lane = subst (λ l. ServedBy a l []) lane (served-none a);
         class = subst (λ t. HoldsClass t file call (Number call ∷ [])) (sym room) (refl, refl);
@@ -198,24 +206,26 @@ module _ (m : MountView) (file : FileId) (call off asked : ℕ) (a b : LaneView)
         cause = tt;
         stops = tt;
         bios = bios;
+        budget = budget-none m file off (read_to end off asked) p (Number call ∷ []) refl;
+        dry = λ dax. refl;
       }
 
   -- how a punch leaves its pass
   pub punch-leaves : MayCall m file call p → IsPassOf m q → HoldsNone q file → KeepsTickets (with_call p call) q → q.last ≡ call → Punches m file call off asked a b p q answer → LeavesPass m file call p q
-  punch-leaves may of free tickets last w = leaves-call m file (may_clear (tag_of p call)) call p q w.acts w.did of free tickets last
+  punch-leaves may of free tickets last w = leaves-call m file (may_clear (file_at m file).mode (tag_of p call)) call p q w.acts w.did of free tickets last
 
   -- the same, as the body of the call computes it
   module _ (may : MayCall m file call p) (sized : IsTrue (is_block_size m.geometry.block_size)) (by : Tag) (start : PassView) (end to : ℕ) (by_is : by ≡ tag_of p call) (start_is : start ≡ with_call p call) (end_is : end ≡ file_end m file) (to_is : to ≡ read_to end off asked) where
     to-read : to ≡ read_to (file_end m file) off asked
     to-read = to_is ∙ ap (λ n. read_to n off asked) end_is
 
-    module _ (came : Progress) (less : off < to) (stops : IfSome came.fault StopsClear) (w : LaidWith (IsPunched m file off to) m (may_clear by) file by off (replicate (to - off) 0) a b start q came) (ends : EndsAt m.geometry.block_size off to came.at came.fault false)
+    module _ (came : Progress) (less : off < to) (stops : IfSome came.fault StopsClear) (w : LaidWith (IsPunched m file off to) m (may_clear (file_at m file).mode by) file by off to (replicate (to - off) 0) a b start q came) (ends : EndsAt m.geometry.block_size off to came.at came.fault false)
         (replied : answer.reply ≡ read_reply asked (to - off) (came.at - off) came.fault) (bios : answer.bios ≡ came.bios) where
       pub punches-from : Punches m file call off asked a b p q answer
       punches-from =
           punches-so to came (some-bytes m.geometry.block_size sized) to-read less stops
-          (subst (λ t. LaidWith (IsPunched m file off to) m (may_clear t) file t off (replicate (to - off) 0) a b (with_call p call) q came) by_is
-          (subst (λ v. LaidWith (IsPunched m file off to) m (may_clear by) file by off (replicate (to - off) 0) a b v q came) start_is w)) ends replied bios
+          (subst (λ t. LaidWith (IsPunched m file off to) m (may_clear (file_at m file).mode t) file t off to (replicate (to - off) 0) a b (with_call p call) q came) by_is
+          (subst (λ v. LaidWith (IsPunched m file off to) m (may_clear (file_at m file).mode by) file by off to (replicate (to - off) 0) a b v q came) start_is w)) ends replied bios
 
       pub leaves-from : HoldsNone q file → LeavesPass m file call p q
       leaves-from free = punch-leaves may w.of free (λ t is. w.tickets t (subst (λ v. IsTicketOf v t) (sym start_is) is)) (w.last ∙ ap (λ (v : PassView). v.last) start_is) punches-from

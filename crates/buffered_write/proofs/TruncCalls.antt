@@ -4,7 +4,7 @@ use Rattle.std.specs.Prelude.{◌%◌, IfSome, IsTrue, Option, nat_le, nat_lt}
 use Rattle.std.proofs.lemmas.Bool.{false≢true}
 use Rattle.std.proofs.lemmas.Bool.Decides.{nat_tests}
 use Rattle.std.proofs.lemmas.List.{take-replicate}
-use Rattle.std.proofs.lemmas.List.Elements.{All-nil}
+use Rattle.std.proofs.lemmas.List.Elements.{All-cons, All-nil}
 use Rattle.iob_base.specs.declared.answer.Answer.{Answer}
 use Rattle.iob_base.specs.declared.answer.Fault.{Fault}
 use Rattle.iob_base.specs.declared.answer.Fault.TheVariants.{TooFar}
@@ -29,7 +29,7 @@ use Rattle.mini_fs.specs.Holds.{HoldsNone}
 use Rattle.mini_fs.proofs.CallLemmas.{call-then}
 use Rattle.call_parts.specs.Parts.{stamps_over}
 use Rattle.call_parts.specs.Replies.{read_reply}
-use Rattle.call_parts.specs.Steps.{ServedBy}
+use Rattle.call_parts.specs.Steps.{IsPlaced, ServedBy}
 use Rattle.call_parts.specs.declared.progress.Progress.{Progress}
 use Rattle.call_parts.proofs.NumberLemmas.{call-numbered}
 use Rattle.call_parts.proofs.PartLemmas.{over-none}
@@ -38,6 +38,8 @@ use Rattle.buffered_write.specs.Clears.{IsOfClearing, StopsClear, may_clear}
 use Rattle.buffered_write.specs.Lays.{IsLeftAfter, LieOn, laid_in}
 use Rattle.buffered_write.specs.LaysLocked.{HoldsClass}
 use Rattle.buffered_write.specs.Truncates.{CutsLocked, MeetsCut, StopsCut, Truncates, cut_end, cut_reply, cut_span}
+use Rattle.buffered_write.proofs.PartReadLemmas.{budget-none, reads-behind}
+use Rattle.buffered_write.proofs.ZeroBudgets.{clear-budget}
 use Rattle.buffered_write.proofs.LaidLemmas.{leaves-call}
 use Rattle.buffered_write.proofs.LayLemmas.{lie-none}
 use Rattle.buffered_write.proofs.TruncReplyLemmas.{MayEnd, answered-cut, lawful-cut, reply-far, reply-near}
@@ -96,8 +98,9 @@ module _ (m : MountView) (file : FileId) (call to : ℕ) (a b : LaneView) (p q :
         fault = came.fault;
         found = found;
         acts = Number call ∷ w.acts;
-        did = call-then m file (may_clear (tag_of p call)) p (with_call p call) q (Number call ∷ []) w.acts (call-numbered m file (may_clear (tag_of p call)) p call) w.did;
+        did = call-then m file (may_clear (file_at m file).mode (tag_of p call)) p (with_call p call) q (Number call ∷ []) w.acts (call-numbered m file (may_clear (file_at m file).mode (tag_of p call)) p call) w.did;
         callers = w.callers;
+        placed = All-cons (IsPlaced m file) (Number call) w.acts tt w.placed;
         run = w.run;
         lane = w.lane;
         class = subst (λ t. HoldsClass t file call (Number call ∷ w.acts)) (sym (near-so near)) (let c = w.also.0.0 in record { home = c.home; held = c.held; next = c.next; work = c.work; acts_are = ap (λ l. Number call ∷ l) c.acts_are; locks = c.locks });
@@ -116,6 +119,8 @@ module _ (m : MountView) (file : FileId) (call to : ℕ) (a b : LaneView) (p q :
         cause = w.cause;
         stops = left-cut size to (cut_end m file to found) came.at came.fault low cut.stops;
         bios = bios ∙ w.bios;
+        budget = clear-budget m file (tag_of p call) to (cut_end m file to found) came.fault p (Number call ∷ w.acts) (reads-behind m file to (cut_end m file to found) came.fault (Number call ∷ []) w.acts refl w.few) w.did.made;
+        dry = w.dry;
       }
 
   -- a cut that was too far
@@ -128,8 +133,9 @@ module _ (m : MountView) (file : FileId) (call to : ℕ) (a b : LaneView) (p q :
         fault = None;
         found = None;
         acts = Number call ∷ [];
-        did = subst (λ r. CallActs m file (may_clear (tag_of p call)) p r (Number call ∷ [])) (sym q_is) (call-numbered m file (may_clear (tag_of p call)) p call);
+        did = subst (λ r. CallActs m file (may_clear (file_at m file).mode (tag_of p call)) p r (Number call ∷ [])) (sym q_is) (call-numbered m file (may_clear (file_at m file).mode (tag_of p call)) p call);
         callers = All-nil (λ (e : Entry). e.caller ≡ p.caller);
+        placed = All-cons (IsPlaced m file) (Number call) [] tt (All-nil (IsPlaced m file));
         run = refl;
         lane = subst (λ l. ServedBy a l []) lane (served-none a);
         class = subst (λ t. HoldsClass t file call (Number call ∷ [])) (sym (far-so far)) (refl, refl);
@@ -144,6 +150,8 @@ module _ (m : MountView) (file : FileId) (call to : ℕ) (a b : LaneView) (p q :
         cause = tt;
         stops = tt;
         bios = bios;
+        budget = budget-none m file to (cut_end m file to None) p (Number call ∷ []) refl;
+        dry = λ dax. refl;
       }
 
   -- the same, as the body of the call computes it
@@ -155,7 +163,7 @@ module _ (m : MountView) (file : FileId) (call to : ℕ) (a b : LaneView) (p q :
     pub cut-leaves : (came : Progress) → CutsLocked m file by to a b start q came → HoldsNone q file → LeavesPass m file call p q
     cut-leaves came cut free =
         let w = (subst (λ t. CutsLocked m file t to a b (with_call p call) q came) by_is (subst (λ v. CutsLocked m file by to a b v q came) start_is cut)).cleared in
-        leaves-call m file (may_clear (tag_of p call)) call p q (Number call ∷ w.acts) (call-then m file (may_clear (tag_of p call)) p (with_call p call) q (Number call ∷ []) w.acts (call-numbered m file (may_clear (tag_of p call)) p call) w.did)
+        leaves-call m file (may_clear (file_at m file).mode (tag_of p call)) call p q (Number call ∷ w.acts) (call-then m file (may_clear (file_at m file).mode (tag_of p call)) p (with_call p call) q (Number call ∷ []) w.acts (call-numbered m file (may_clear (file_at m file).mode (tag_of p call)) p call) w.did)
         w.of free w.tickets w.last
 
     pub cut-far : end < to → a ≡ b → q ≡ start → answer ≡ record { reply = reply.Err (TooFar to end) 0; bios = 0 } → Truncates m file call to a b p q answer

@@ -13,10 +13,11 @@ use Rattle.inode_lock.specs.declared.word.Class.TheVariants.{Exclusive}
 use Rattle.io_model.specs.Parts.{span}
 use Rattle.fault_device.specs.LaneView.{LaneView}
 use Rattle.range_core.specs.Stamps.{done_by, stamps_from}
+use Rattle.range_core.specs.declared.entry.Entry.{Entry}
 use Rattle.iob_base.specs.declared.stamp.Stamp.{Stamp}
 use Rattle.size_core.specs.declared.entry.SizeEvent.{SizeEvent}
 use Rattle.size_core.specs.declared.entry.SizeEvent.TheVariants.{Ready, See}
-use Rattle.mount_parts.specs.MountView.{MountView}
+use Rattle.mount_parts.specs.MountView.{MountView, file_at}
 use Rattle.mini_fs.specs.Acts.{Act, own_entries}
 use Rattle.mini_fs.specs.Acts.Act.{SizeTurn}
 use Rattle.mini_fs.specs.CallActs.{lock_acts, size_acts}
@@ -39,6 +40,8 @@ use Rattle.buffered_write.specs.Lays.{EndsAt, GoesAt, LieOn}
 use Rattle.buffered_write.specs.LaysLocked.{HeldExclusive}
 use Rattle.buffered_write.specs.Pwrites.{IsPlain, progress}
 use Rattle.buffered_write.specs.Truncates.{ClearedWith, CutsInRoom, CutsLocked, CutsUnlocked, MeetsOnly, StopsCut, cut_end}
+use Rattle.call_parts.specs.Budgets.{IsSound}
+use Rattle.buffered_write.proofs.PartReadLemmas.{quiet-reads}
 use Rattle.buffered_write.proofs.LaidLemmas.{laid-before, laid-behind, laid-held, laid-other, laid-so}
 use Rattle.buffered_write.proofs.LayLemmas.{lie-none}
 use Rattle.buffered_write.proofs.PwriteLemmas.{bare-size}
@@ -60,23 +63,25 @@ module _ (m : MountView) (file : FileId) (by : Tag) (from : ℕ) where
   With to Also acts = Also acts × All (IsOfClearing m.geometry.block_size from to) (own_entries acts)
 
   cleared-plain : (to : ℕ) (a b : LaneView) (p q : PassView) (came : Progress) → Clears m file by from to a b p q came → ClearedWith IsPlain m file by from to a b p q came
-  cleared-plain to a b p q came c = laid-so m (may_clear by) file by from (replicate (to - from) 0) a b came (With to IsPlain) p q c.laid ((c.laid.steps.locks, c.laid.steps.sizes), c.parts)
+  cleared-plain to a b p q came c = laid-so m (may_clear (file_at m file).mode by) file by from to (replicate (to - from) 0) a b came (With to IsPlain) p q c.laid ((c.laid.steps.locks, c.laid.steps.sizes), c.parts) c.few
 
   -- nothing was cleared: there was nothing to clear, or memory was wanting
-  pub cleared-none : (to : ℕ) (a : LaneView) (p : PassView) (fault : Option Fault) → IfSome fault (IsCaused []) → IsPassOf m p → Clears m file by from to a a p p (progress from 0 fault)
+  pub cleared-none : (to : ℕ) (a : LaneView) (p : PassView) (fault : Option Fault) → IfSome fault (IsCaused m []) → IsPassOf m p → Clears m file by from to a a p p (progress from 0 fault)
   cleared-none to a p fault cause of =
       let zero : from - from ≡ 0 = omega arith in
       record {
         laid = record {
           acts = [];
-          steps = steps-none m file (may_clear by) a p of;
+          steps = steps-none m file (may_clear (file_at m file).mode by) a p of;
           begins = omega arith;
           laid = subst (λ n. LieOn from from (take n (replicate (to - from) 0)) []) (sym zero) (lie-none from);
           stamps = sym (over-itself m.geometry.block_size from (done_by by));
           cause = cause;
           bios = omega arith;
+          dry = λ dax. refl;
         };
         parts = All-nil (IsOfClearing m.geometry.block_size from to);
+        few = quiet-reads m file from to fault [] (All-nil (λ (e : Entry). IsSound e.event)) refl;
       }
 
   wanting-none : (to : ℕ) (a : LaneView) (p : PassView) → IsPassOf m p → ClearedWith IsPlain m file by from to a a p p (progress from 0 (Some NoMemory))
@@ -90,7 +95,7 @@ module _ (m : MountView) (file : FileId) (by : Tag) (from : ℕ) where
       let turn : Act = SizeTurn (size_at m file) t.others (size_entry q.caller event) in
       let caller : q.caller ≡ p.caller = acted-caller c.laid.acts p q c.laid.steps.did.acted in
       let plain = cleared-plain to a b p q came c in
-      laid-before m (may_clear by) file by from (replicate (to - from) 0) a b came (With to IsPlain) (With to (MeetsOnly m file p.caller (event ∷ []))) p q r turn (bare-size m file by event q r t.others sized t.did tickets) of plain (
+      laid-before m (may_clear (file_at m file).mode by) file by from to (replicate (to - from) 0) a b came (With to IsPlain) (With to (MeetsOnly m file p.caller (event ∷ []))) p q r turn (bare-size m file by event q r t.others sized t.did tickets) of plain (
         (
           lock_acts-append plain.acts (turn ∷ []) ∙ append-nil (lock_acts plain.acts) ∙ plain.also.0.0,
           subst (AreSizeTurns p.caller (size_at m file) (event ∷ [])) (sym (size_acts-append plain.acts (turn ∷ []) ∙ ap (λ l. l ++ turn ∷ []) plain.also.0.1)) (refl, ap (λ n. size_entry n event) caller, tt),
@@ -108,7 +113,7 @@ module _ (m : MountView) (file : FileId) (by : Tag) (from : ℕ) where
       record {
         room = Ok done;
         refused = tt;
-        cleared = laid-behind m (may_clear by) file by from (replicate (to - from) 0) a b came (With to (MeetsOnly m file q.caller rest)) (With to (MeetsOnly m file p.caller (Ready (Ok done) ∷ rest))) p q r turn bare w (
+        cleared = laid-behind m (may_clear (file_at m file).mode by) file by from to (replicate (to - from) 0) a b came (With to (MeetsOnly m file q.caller rest)) (With to (MeetsOnly m file p.caller (Ready (Ok done) ∷ rest))) p q r turn bare w (
           (w.also.0.0, (refl, refl, subst (λ n. AreSizeTurns n (size_at m file) rest (size_acts w.acts)) bare.caller w.also.0.1)),
           w.also.1,
         );
@@ -121,7 +126,7 @@ module _ (m : MountView) (file : FileId) (by : Tag) (from : ℕ) where
       record {
         room = Err e;
         refused = ((let z : from - from ≡ 0 = omega arith in z), refl);
-        cleared = laid-behind m (may_clear by) file by from (replicate (to - from) 0) a a (progress from 0 (Some NoMemory)) (With to IsPlain) (With to (MeetsOnly m file p.caller (Ready (Err e) ∷ []))) p q q turn
+        cleared = laid-behind m (may_clear (file_at m file).mode by) file by from to (replicate (to - from) 0) a a (progress from 0 (Some NoMemory)) (With to IsPlain) (With to (MeetsOnly m file p.caller (Ready (Err e) ∷ []))) p q q turn
             (bare-size m file by (Ready (Err e)) p q made.turned.others sized made.turned.did tickets) none (
               (none.also.0.0, (refl, refl, subst (AreSizeTurns p.caller (size_at m file) []) (sym none.also.0.1) tt)),
               none.also.1,
@@ -138,7 +143,7 @@ module _ (m : MountView) (file : FileId) (by : Tag) (from : ℕ) where
   cut-seen found to a b p q r came sized saw tickets to_is w fault stops =
       let turn : Act = SizeTurn (size_at m file) saw.turned.others (size_entry p.caller (See by (Ok found))) in
       let bare = bare-size m file by (See by (Ok found)) p q saw.turned.others sized saw.turned.did tickets in
-      let cleared = laid-behind m (may_clear by) file by from (replicate (to - from) 0) a b came (With to (MeetsOnly m file q.caller (rooms w.room))) (With to (λ acts. (lock_acts acts ≡ []) × Found p.caller came (Some found) acts)) p q r turn bare w.cleared (
+      let cleared = laid-behind m (may_clear (file_at m file).mode by) file by from to (replicate (to - from) 0) a b came (With to (MeetsOnly m file q.caller (rooms w.room))) (With to (λ acts. (lock_acts acts ≡ []) × Found p.caller came (Some found) acts)) p q r turn bare w.cleared (
         (
           w.cleared.also.0.0,
           record {
@@ -173,7 +178,7 @@ module _ (m : MountView) (file : FileId) (by : Tag) (from : ℕ) where
       let zero : from - from ≡ 0 = omega arith in
       record {
         found = None;
-        cleared = laid-behind m (may_clear by) file by from (replicate (to - from) 0) a a came (With to IsPlain) (With to (λ acts. (lock_acts acts ≡ []) × Found p.caller came None acts)) p q q turn (bare-size m file by (See by (Err e)) p q saw.turned.others sized saw.turned.did tickets) none (
+        cleared = laid-behind m (may_clear (file_at m file).mode by) file by from to (replicate (to - from) 0) a a came (With to IsPlain) (With to (λ acts. (lock_acts acts ≡ []) × Found p.caller came None acts)) p q q turn (bare-size m file by (See by (Err e)) p q saw.turned.others sized saw.turned.did tickets) none (
           (
             none.also.0.0,
             record {
@@ -198,14 +203,14 @@ module _ (m : MountView) (file : FileId) (by : Tag) (from : ℕ) where
   cut-locked a b p p1 p2 q h came t first is w l of last =
       let to = cut_end m file from w.found in
       let caller : p1.caller ≡ p.caller = ap (λ (v : PassView). v.caller) t.pass_is in
-      let locked = laid-held m (may_clear by) file by from (replicate (to - from) 0) a b came (With to (λ acts. (lock_acts acts ≡ []) × Found p1.caller came w.found acts)) (With to (Found p.caller came w.found)) p p1 p2 q h t first is w.cleared w.cleared.also.0.0 l of last (λ more own sizes. (
+      let locked = laid-held m (may_clear (file_at m file).mode by) file by from to (replicate (to - from) 0) a b came (With to (λ acts. (lock_acts acts ≡ []) × Found p1.caller came w.found acts)) (With to (Found p.caller came w.found)) p p1 p2 q h t first is w.cleared w.cleared.also.0.0 l of last (λ more own sizes. (
         subst (CutsAt (size_at m file) p.caller (file_end m file) by from (came.at - from) came.fault w.found) (sym sizes)
             (subst (λ n. CutsAt (size_at m file) n (file_end m file) by from (came.at - from) came.fault w.found (size_acts w.cleared.acts)) caller w.cleared.also.0.1),
         subst (All (IsOfClearing m.geometry.block_size from to)) (sym own) w.cleared.also.1,
       )) in
       record {
         found = w.found;
-        cleared = laid-other m (may_clear by) file by from (replicate (to - from) 0) a b came (λ acts. HeldExclusive file acts × With to (Found p.caller came w.found) acts) (With to (λ acts. HeldExclusive file acts × Found p.caller came w.found acts)) p q locked
+        cleared = laid-other m (may_clear (file_at m file).mode by) file by from to (replicate (to - from) 0) a b came (λ acts. HeldExclusive file acts × With to (Found p.caller came w.found) acts) (With to (λ acts. HeldExclusive file acts × Found p.caller came w.found acts)) p q locked
             ((locked.also.0, locked.also.1.0), locked.also.1.1);
         fault = w.fault;
         stops = w.stops;

@@ -12,9 +12,11 @@ use Rattle.turn_cell.specs.Views.{CellView, SeatView}
 use Rattle.range_core.specs.ByteRuns.{IsInFolio}
 use Rattle.range_core.specs.DaxGets.{IsThrough}
 use Rattle.range_core.specs.EntryCounts.{has_lent, one_where}
+use Rattle.range_core.specs.EntryStamps.{stamps_met, stamps_of}
 use Rattle.range_core.specs.KnownSamples.{WasGiven}
 use Rattle.range_core.specs.RangeView.{LiesAt, RangeView}
 use Rattle.range_core.specs.Spots.{blocks_met}
+use Rattle.range_core.specs.Stamps.{done_by}
 use Rattle.range_core.specs.Stores.{LieInExtent}
 use Rattle.range_core.specs.declared.entry.Entry.{Entry}
 use Rattle.range_core.specs.declared.entry.Event.{Event}
@@ -37,10 +39,11 @@ use Rattle.mini_fs.proofs.ActLemmas.{acted-seat}
 use Rattle.mini_fs.proofs.CallEnds.{acted-caller, acted-shares}
 use Rattle.mini_fs.proofs.Layouts.{stripe-sizes}
 use Rattle.mini_fs.proofs.Ready.{run-lies, stripe-here}
-use Rattle.call_parts.specs.Steps.{ServedBy, Steps, done_of}
+use Rattle.call_parts.specs.Steps.{IsPlaced, ServedBy, Steps, done_of}
 use Rattle.call_parts.proofs.PartLemmas.{div-mono}
+use Rattle.call_parts.proofs.PlacedLemmas.{run-placed}
 use Rattle.call_parts.proofs.StepLemmas.{served-none}
-use Rattle.buffered_write.specs.Lays.{CanLay, GoesAt, GoesOn, LieUnder}
+use Rattle.buffered_write.specs.Lays.{CanLay, GoesAt, GoesOn, IsDry, LieUnder}
 
 -- acts that close their tickets keep enough of a share
 shares-on : (m : MountView) (file : FileId) (least : ℕ) (p q : PassView) (acts : List Act) → Acted acts p q → KeepsShares p q → HasShares m file least p → HasShares m file least q
@@ -83,6 +86,13 @@ module _ (m : MountView) (file : FileId) (by : Tag) where
     exists = may.exists;
     shares = λ b has. (let s = may.shares b has in omega (arith, s));
   })
+
+-- a file with a page cache is none whose bytes lie in their sectors alone
+pub cached-dry : (m : MountView) (file : FileId) (acts : List Act) → (file_at m file).mode ≡ Cached → IsDry m file acts
+cached-dry m file acts cached dax = absurd (apart (sym cached ∙ dax))
+  where
+    apart : Cached ≡ Dax → ⊥
+    apart e = cc
 
 -- a sample once given stays given
 pub given-after : (p q : PassView) (acts : List Act) (k : ℕ) (sample : Sample) → Acted acts p q → IsGivenAt p k sample → IsGivenAt q k sample
@@ -156,6 +166,16 @@ module _ (m : MountView) (file : FileId) (seen : Sample) (from to : ℕ) (p : Pa
       let same : from / m.geometry.block_size / 64 ≡ seen.extent.block / 64 = omega (arith, stripe, low, mid, high) in
       ap (λ n. (file_at m file).stripe + n) same
 
+  -- an entry there that stamped the blocks met left its stamps where it stands
+  pub met-placed : (by : Tag) (others : List Entry) (own : Entry) → stamps_of m.geometry.block_size own ≡ stamps_met m.geometry.block_size by from to → IsPlaced m file (Turn (stripe_at m file (block_at m from)) others own)
+  met-placed by others own is =
+      let e = in-extent in
+      let stripe = under.lies.stripe in
+      let low = e.0 in
+      let mid = e.1 in
+      let high = e.2 in
+      run-placed m file (from / m.geometry.block_size) (blocks_met m.geometry.block_size from to) (done_by by) others own (omega (arith, low, mid, high, stripe)) is
+
   -- the pass was given the sample at the stripe of the first byte
   pub given-here : (seat : SeatView Entry) → slice_get p.stripes (stripe_at m file (block_at m from)) ≡ Some seat → WasGiven seen seat.seen
   given-here seat here =
@@ -207,8 +227,8 @@ module _ (m : MountView) (file : FileId) (seen : Sample) (from to : ℕ) (p : Pa
 
 -- one turn of an event that lends nothing is a step, with what it tells of a transfer
 pub served-turn : (m : MountView) (file : FileId) (may : Event → Bool) (p q : PassView) (stripe : ℕ) (others : List Entry) (e : Event) (o : Outcome) (a b : LaneView) → Acts (Turn stripe others (entry_by p.caller e o)) p q → IsStripeOf m file stripe
-    → IsTrue (may e) → has_lent o ≡ false → IsPassOf m q → KeepsTickets p q → ServedBy a b (done_of e o) → Steps m file may a b p q (Turn stripe others (entry_by p.caller e o) ∷ [])
-served-turn m file may p q stripe others e o a b did here made home of tickets served =
+    → IsTrue (may e) → has_lent o ≡ false → IsPlaced m file (Turn stripe others (entry_by p.caller e o)) → IsPassOf m q → KeepsTickets p q → ServedBy a b (done_of e o) → Steps m file may a b p q (Turn stripe others (entry_by p.caller e o) ∷ [])
+served-turn m file may p q stripe others e o a b did here made home placed of tickets served =
     let act : Act = Turn stripe others (entry_by p.caller e o) in
     let own : Entry = entry_by p.caller e o in
     record {
@@ -223,6 +243,7 @@ served-turn m file may p q stripe others e o a b did here made home of tickets s
       sizes = refl;
       last = ap (λ (v : PassView). v.last) did.pass_is;
       callers = All-cons (λ (x : Entry). x.caller ≡ p.caller) own [] refl (All-nil (λ (x : Entry). x.caller ≡ p.caller));
+      placed = All-cons (IsPlaced m file) act [] placed (All-nil (IsPlaced m file));
       run = sym (ap (λ t. one_where t + 0) home);
       lane = subst (ServedBy a b) (sym (append-nil (done_of e o))) served;
       tickets = tickets;
@@ -230,5 +251,5 @@ served-turn m file may p q stripe others e o a b did here made home of tickets s
 
 -- and of one that tells of none, on any lane
 pub one-turn : (m : MountView) (file : FileId) (may : Event → Bool) (p q : PassView) (stripe : ℕ) (others : List Entry) (e : Event) (o : Outcome) → Acts (Turn stripe others (entry_by p.caller e o)) p q → IsStripeOf m file stripe
-    → IsTrue (may e) → done_of e o ≡ [] → has_lent o ≡ false → IsPassOf m q → KeepsTickets p q → (lane : LaneView) → Steps m file may lane lane p q (Turn stripe others (entry_by p.caller e o) ∷ [])
-one-turn m file may p q stripe others e o did here made none home of tickets lane = served-turn m file may p q stripe others e o lane lane did here made home of tickets (subst (ServedBy lane lane) (sym none) (served-none lane))
+    → IsTrue (may e) → done_of e o ≡ [] → has_lent o ≡ false → IsPlaced m file (Turn stripe others (entry_by p.caller e o)) → IsPassOf m q → KeepsTickets p q → (lane : LaneView) → Steps m file may lane lane p q (Turn stripe others (entry_by p.caller e o) ∷ [])
+one-turn m file may p q stripe others e o did here made none home placed of tickets lane = served-turn m file may p q stripe others e o lane lane did here made home placed of tickets (subst (ServedBy lane lane) (sym none) (served-none lane))

@@ -16,7 +16,7 @@ use Rattle.range_core.specs.declared.entry.Event.TheVariants.{Wipe}
 use Rattle.range_core.specs.declared.entry.Outcome.TheVariants.{Counted, Refused}
 use Rattle.range_core.specs.declared.fault.EventFault.{EventFault}
 use Rattle.range_core.specs.declared.fault.EventFault.TheVariants as refusal
-use Rattle.mount_parts.specs.MountView.{HasBlock, IsLaidOut, MountView, stripe_at}
+use Rattle.mount_parts.specs.MountView.{HasBlock, IsLaidOut, MountView, file_at, stripe_at}
 use Rattle.mini_fs.specs.Acts.{HasTurned}
 use Rattle.mini_fs.specs.Acts.Act.{Turn}
 use Rattle.mini_fs.specs.PageTurns.{WipesAt, entry_by}
@@ -24,11 +24,14 @@ use Rattle.mini_fs.specs.PassView.{IsPassOf, PassView, claims_of}
 use Rattle.mini_fs.specs.Turns.{ReadyAt, TurnsAt}
 use Rattle.mini_fs.proofs.ActLemmas.{turned-act}
 use Rattle.mini_fs.proofs.Ready.{run-lies}
+use Rattle.call_parts.specs.Budgets.{IsSound}
+use Rattle.buffered_write.proofs.PartReadLemmas.{quiet-reads}
 use Rattle.call_parts.specs.Causes.{IsCaused}
 use Rattle.call_parts.specs.Parts.{stamps_over}
 use Rattle.call_parts.proofs.MapLemmas.{act-step}
 use Rattle.call_parts.proofs.NumberLemmas.{own-tag}
 use Rattle.call_parts.proofs.PartLemmas.{over-met, over-none}
+use Rattle.call_parts.proofs.PlacedLemmas.{bare-placed, run-placed}
 use Rattle.buffered_write.specs.Clears.{IsOfClearing, IsRunOf, StopsClear, WipedOnce, WipesTo, may_clear, wipe_fault, wiped_to}
 use Rattle.buffered_write.specs.Lays.{GoesAt, LieOn}
 use Rattle.buffered_write.specs.Pwrites.{progress}
@@ -75,17 +78,17 @@ wipe-stops (refusal.Unattached block) = tt
 wipe-stops (refusal.Dirty block) = tt
 wipe-stops (refusal.Poison done) = tt
 
-wipe-causes : (refused : EventFault) (own : Entry) → own.outcome ≡ Refused refused → IsCaused (own ∷ []) (wipe_fault refused)
-wipe-causes (refusal.Worn cookie) own is = (0, own, refl, is)
-wipe-causes (refusal.NoSpace wanted found) own is = tt
-wipe-causes refusal.NoMemory own is = tt
-wipe-causes (refusal.Stale sample now) own is = tt
-wipe-causes (refusal.Away block ticket) own is = tt
-wipe-causes (refusal.Cold block) own is = tt
-wipe-causes (refusal.Settled block) own is = tt
-wipe-causes (refusal.Unattached block) own is = tt
-wipe-causes (refusal.Dirty block) own is = tt
-wipe-causes (refusal.Poison done) own is = tt
+wipe-causes : (m : MountView) (refused : EventFault) (own : Entry) → own.outcome ≡ Refused refused → IsCaused m (own ∷ []) (wipe_fault refused)
+wipe-causes m (refusal.Worn cookie) own is = (0, own, refl, is)
+wipe-causes m (refusal.NoSpace wanted found) own is = tt
+wipe-causes m refusal.NoMemory own is = tt
+wipe-causes m (refusal.Stale sample now) own is = tt
+wipe-causes m (refusal.Away block ticket) own is = tt
+wipe-causes m (refusal.Cold block) own is = tt
+wipe-causes m (refusal.Settled block) own is = tt
+wipe-causes m (refusal.Unattached block) own is = tt
+wipe-causes m (refusal.Dirty block) own is = tt
+wipe-causes m (refusal.Poison done) own is = tt
 
 module _ (m : MountView) (file : FileId) (by : Tag) (block blocks : ℕ) (p q : PassView) where
   pub wipe-ready : IsLaidOut m → IsRunOf m file block blocks → ReadyAt (λ opening history claims. LiesAt opening block blocks) m p (stripe_at m file block) (claims_of p)
@@ -106,7 +109,7 @@ module _ (m : MountView) (file : FileId) (by : Tag) (block blocks : ℕ) (p q : 
       record {
         laid = record {
           acts = Turn (stripe_at m file block) others own ∷ [];
-          steps = act-step m file (may_clear by) block others own p q of (run-block run) did (own-tag by) refl refl refl lane;
+          steps = act-step m file (may_clear (file_at m file).mode by) block others own p q of (run-block run) did (own-tag by) refl refl refl (run-placed m file block blocks (done_by by) others own run.in_stripe refl) lane;
           begins = omega arith;
           laid = record {
             order = (refl, tt);
@@ -116,13 +119,15 @@ module _ (m : MountView) (file : FileId) (by : Tag) (block blocks : ℕ) (p q : 
           stamps = append-nil (stamps_from block blocks (done_by by)) ∙ sym (run-stamps size block blocks by some run.some);
           cause = tt;
           bios = omega arith;
+          dry = λ dax. refl;
         };
         parts = All-cons (IsOfClearing size (block * size) ((block + blocks) * size)) own [] (omega arith, omega arith) (All-nil (IsOfClearing size (block * size) ((block + blocks) * size)));
+        few = quiet-reads m file (block * size) ((block + blocks) * size) None (Turn (stripe_at m file block) others own ∷ []) (All-cons (λ (e : Entry). IsSound e.event) own [] tt (All-nil (λ (e : Entry). IsSound e.event))) refl;
       }
 
   -- the run was refused, and that stops the call or not
   not-wiped : (refused : EventFault) (fault : Option Fault) (others : List Entry) → 0 < m.geometry.block_size → IsRunOf m file block blocks → IsPassOf m p → HasTurned (stripe_at m file block) others (entry_by p.caller (Wipe by block blocks) (Refused refused)) p q
-      → IfSome fault (IsCaused (entry_by p.caller (Wipe by block blocks) (Refused refused) ∷ [])) → WipesTo m file by block blocks p q (progress (block * m.geometry.block_size) 0 fault)
+      → IfSome fault (IsCaused m (entry_by p.caller (Wipe by block blocks) (Refused refused) ∷ [])) → WipesTo m file by block blocks p q (progress (block * m.geometry.block_size) 0 fault)
   not-wiped refused fault others some run of did cause lane =
       let size = m.geometry.block_size in
       let own : Entry = entry_by p.caller (Wipe by block blocks) (Refused refused) in
@@ -130,14 +135,16 @@ module _ (m : MountView) (file : FileId) (by : Tag) (block blocks : ℕ) (p q : 
       record {
         laid = record {
           acts = Turn (stripe_at m file block) others own ∷ [];
-          steps = act-step m file (may_clear by) block others own p q of (run-block run) did (own-tag by) refl refl refl lane;
+          steps = act-step m file (may_clear (file_at m file).mode by) block others own p q of (run-block run) did (own-tag by) refl refl refl (bare-placed m file (stripe_at m file block) others own refl) lane;
           begins = omega arith;
           laid = subst (λ n. LieOn (block * size) (block * size) (take n (replicate ((block + blocks) * size - block * size) 0)) []) (sym none) (lie-none (block * size));
           stamps = sym (over-none size some (done_by by) (block * size));
           cause = cause;
           bios = omega arith;
+          dry = λ dax. refl;
         };
         parts = All-cons (IsOfClearing size (block * size) ((block + blocks) * size)) own [] (omega arith, omega arith) (All-nil (IsOfClearing size (block * size) ((block + blocks) * size)));
+        few = quiet-reads m file (block * size) ((block + blocks) * size) fault (Turn (stripe_at m file block) others own ∷ []) (All-cons (λ (e : Entry). IsSound e.event) own [] tt (All-nil (λ (e : Entry). IsSound e.event))) refl;
       }
 
   -- what the turn came to
@@ -148,7 +155,7 @@ module _ (m : MountView) (file : FileId) (by : Tag) (block blocks : ℕ) (p q : 
   wiped-once (Err refused) some run of t =
       let did = subst (λ e. HasTurned (stripe_at m file block) t.turned.others e p q) t.turned.done.entry_is (turned-act t) in (
         not-wiped refused None t.turned.others some run of did tt,
-        not-wiped refused (Some (wipe_fault refused)) t.turned.others some run of did (wipe-causes refused (entry_by p.caller (Wipe by block blocks) (Refused refused)) refl),
+        not-wiped refused (Some (wipe_fault refused)) t.turned.others some run of did (wipe-causes m refused (entry_by p.caller (Wipe by block blocks) (Refused refused)) refl),
       )
 
 module _ (m : MountView) (file : FileId) (by : Tag) (block blocks : ℕ) (some : 0 < m.geometry.block_size) where
@@ -161,5 +168,5 @@ module _ (m : MountView) (file : FileId) (by : Tag) (block blocks : ℕ) (some :
       clears-then m file by (block * m.geometry.block_size) ((block + blocks) * m.geometry.block_size) lane lane lane p q r (progress (block * m.geometry.block_size) 0 None) (progress at 0 fault) some refl (omega arith) (inl refl) (one lane) (two lane)
 
   pub wiped-goes : (p q : PassView) (answer : Result ℕ EventFault) → WipedOnce m file by block blocks p q answer → GoesAt m file by p → GoesAt m file by q
-  wiped-goes p q (Ok count) w goes = (let c = (w (lane_of 0 0 None)).laid in goes-at m file by (may_clear by) (lane_of 0 0 None) (lane_of 0 0 None) p q c.acts c.steps goes)
-  wiped-goes p q (Err refused) w goes = (let c = (w.0 (lane_of 0 0 None)).laid in goes-at m file by (may_clear by) (lane_of 0 0 None) (lane_of 0 0 None) p q c.acts c.steps goes)
+  wiped-goes p q (Ok count) w goes = (let c = (w (lane_of 0 0 None)).laid in goes-at m file by (may_clear (file_at m file).mode by) (lane_of 0 0 None) (lane_of 0 0 None) p q c.acts c.steps goes)
+  wiped-goes p q (Err refused) w goes = (let c = (w.0 (lane_of 0 0 None)).laid in goes-at m file by (may_clear (file_at m file).mode by) (lane_of 0 0 None) (lane_of 0 0 None) p q c.acts c.steps goes)

@@ -1,5 +1,5 @@
 -- What a write tells of its parts, of a mapping, and of its range.
-use Rattle.std.proofs.Common.{inl, inr, ◌≡◌, ℕ, zero, suc, ◌+◌, ◌-◌, ◌*◌, ◌<◌, ◌≤◌, List, min, Bool, true, false, Some, None, drop, refl, sym, ap, ◌∙◌, subst, arith}
+use Rattle.std.proofs.Common.{inl, inr, ◌≡◌, ℕ, zero, suc, ◌+◌, ◌-◌, ◌*◌, ◌<◌, ◌≤◌, List, min, Bool, true, false, Some, None, drop, refl, sym, ap, ◌∙◌, subst, arith, le_refl}
 use Rattle.std.specs.Prelude.{◌⊎◌, ◌^◌, ◌%◌, IfSome, IsTrue, Option, if◌then◌else◌, is_none, is_some}
 use Rattle.std.proofs.lemmas.Bool.{cases_eq, false≢true}
 use Rattle.iob_base.specs.Geometry.{is_block_size, is_folio_blocks}
@@ -29,9 +29,10 @@ use Rattle.call_parts.specs.Steps.{Steps}
 use Rattle.call_parts.specs.declared.progress.Progress.{Progress}
 use Rattle.buffered_write.proofs.LayLemmas.{laid-quiet, nothing-may}
 use Rattle.buffered_write.proofs.MappedLemmas.{begun-goes, begun-of, map-step}
+use Rattle.buffered_write.proofs.PartReadLemmas.{part-reads, reads-ended}
 use Rattle.call_parts.proofs.PartLemmas.{IsPart, part-is}
 use Rattle.call_parts.proofs.ReadyLemmas.{some-blocks, some-bytes}
-use Rattle.buffered_write.proofs.StoredLemmas.{can-lay-after, goes-on, lay-some, none-writes, nothing-writes, writes-then}
+use Rattle.buffered_write.proofs.StoredLemmas.{can-lay-after, goes-on, lay-some, none-writes, quiet-writes, writes-then}
 
 -- the bytes of an iov past some
 pub next-past : (v : IovView) (n k : ℕ) → HasNext v n → k ≤ n → HasNext (past v k) (n - k)
@@ -102,7 +103,7 @@ pub record HasWritten (m : MountView) (file : FileId) (by : Tag) (seen : Sample)
   pub high : came.at ≤ to
   pub meet : Meet m.geometry.block_size from came.at to
   pub room : HasNext later (to - came.at)
-  pub writes : Writes m file by from a b p q iov later came
+  pub writes : Writes m file by from to a b p q iov later came
 
 module _ (m : MountView) (file : FileId) (by : Tag) (seen : Sample) (from to : ℕ) where
   pub written-none : (lane : LaneView) (p : PassView) (iov : IovView) → GoesOn m file by p → CanLay m file seen from to p → HasNext iov (to - from) → HasWritten m file by seen from to lane lane p p iov iov (progress from 0 None)
@@ -115,11 +116,20 @@ module _ (m : MountView) (file : FileId) (by : Tag) (seen : Sample) (from to : �
     high = omega (arith, some);
     meet = inl refl;
     room = room;
-    writes = none-writes m file by from lane p iov (lay-some m file seen from to p can) goes.of;
+    writes = none-writes m file by from to lane p iov (lay-some m file seen from to p can) goes.of;
   })
 
+  -- a part that follows what was written
+  pub part-then : (a b c : LaneView) (p q r : PassView) (iov later last : IovView) (came next : Progress) (end : ℕ) → came.at < to → IsPart m.geometry.block_size m.geometry.folio_blocks to came.at end → HasWritten m file by seen from to a b p q iov later came → Writes m file by came.at end b c q r later last next
+      → Writes m file by from to a c p r iov last (followed came next)
+  part-then a b c p q r iov later last came next end less part sofar w =
+      let size = m.geometry.block_size in
+      let some = lay-some m file seen from to q sofar.can in
+      writes-then m file by from to end a b c p q r iov later last came next some sofar.whole (meet-on size from came.at to next.at less sofar.meet)
+      (part-reads m file from came.at end to some part.some part.within sofar.meet (part-meets size m.geometry.folio_blocks from came.at end to part) sofar.low) sofar.writes w
+
   pub written-on : (a b c : LaneView) (p q r : PassView) (iov later last : IovView) (came next : Progress) (end : ℕ) → came.at < to → IsPart m.geometry.block_size m.geometry.folio_blocks to came.at end → next.fault ≡ None → next.at ≡ end
-      → HasWritten m file by seen from to a b p q iov later came → Writes m file by came.at b c q r later last next → GoesOn m file by r → r.begun ≡ q.begun → HasWritten m file by seen from to a c p r iov last (followed came next)
+      → HasWritten m file by seen from to a b p q iov later came → Writes m file by came.at end b c q r later last next → GoesOn m file by r → r.begun ≡ q.begun → HasWritten m file by seen from to a c p r iov last (followed came next)
   written-on a b c p q r iov later last came next end less part whole reached sofar w goes begun =
       let size = m.geometry.block_size in
       let begins = part.some in
@@ -135,7 +145,7 @@ module _ (m : MountView) (file : FileId) (by : Tag) (seen : Sample) (from to : �
         high = omega (arith, within, reached);
         meet = subst (λ n. Meet size from n to) (sym reached) (part-meets size m.geometry.folio_blocks from came.at end to part);
         room = subst (λ (v : IovView). HasNext v (to - next.at)) (sym w.moved) (subst (HasNext (past later (next.at - came.at))) k (next-past later (to - came.at) (next.at - came.at) sofar.room (omega (arith, begins, within, reached))));
-        writes = writes-then m file by from a b c p q r iov later last came next (lay-some m file seen from to q sofar.can) sofar.whole (meet-on size from came.at to next.at less sofar.meet) sofar.writes w;
+        writes = part-then a b c p q r iov later last came next end less part sofar w;
       }
 
 maps-may : (writes : Bool) (by : Tag) (e : Event) → IsTrue (maps writes e) → IsTrue (may_write by e)
@@ -146,12 +156,31 @@ maps-may writes by e is = absurd (false≢true is)
 
 module _ (m : MountView) (file : FileId) (by : Tag) where
   -- a step that maps lays nothing
-  pub map-nothing : (writes : Bool) (lane : LaneView) (p q : PassView) (acts : List Act) (fault : Option Fault) → Steps m file (maps writes) lane lane p q acts → loans_in acts ≡ 0 → IfSome fault (IsCaused (own_entries acts)) → LaysNothing m (may_write by) file lane lane p q 0 fault
+  pub map-nothing : (writes : Bool) (lane : LaneView) (p q : PassView) (acts : List Act) (fault : Option Fault) → Steps m file (maps writes) lane lane p q acts → loans_in acts ≡ 0 → IfSome fault (IsCaused m (own_entries acts)) → LaysNothing m (may_write by) file lane lane p q 0 fault
   map-nothing writes lane p q acts fault steps none cause = nothing-may m file (maps writes) (may_write by) (maps-may writes by) lane lane p q 0 fault (map-step m file writes lane p q acts fault steps none cause)
 
   -- a step that lays nothing behind a write leaves what it laid, and its fault
-  pub writes-quiet : (from : ℕ) (a b c : LaneView) (p q r : PassView) (iov later : IovView) (came : Progress) → Writes m file by from a b p q iov later came → LaysNothing m (may_write by) file b c q r 0 None → Writes m file by from a c p r iov later came
-  writes-quiet from a b c p q r iov later came w n = record { laid = laid-quiet m (may_write by) file by from (drop iov.place iov.bytes) a b c p q r came w.laid n; moved = w.moved }
+  pub writes-quiet : (from to : ℕ) (a b c : LaneView) (p q r : PassView) (iov later : IovView) (came : Progress) → Writes m file by from to a b p q iov later came → LaysNothing m (may_write by) file b c q r 0 None → Writes m file by from to a c p r iov later came
+  unfolding laid-quiet
+  writes-quiet from to a b c p q r iov later came w n = record {
+    laid = laid-quiet m (may_write by) file by from (drop iov.place iov.bytes) a b c p q r came w.laid n;
+    few = reads-ended m file from to came.fault w.laid.acts n.acts w.few (n.sound refl) (let sent = n.sent in let none : loans_in n.acts ≡ 0 = omega (arith, sent) in none);
+    moved = w.moved;
+  }
+
+  -- a mapping that was begun has some of the range
+  pub mapped-some : (pos left end : ℕ) (p : PassView) (iomap : Iomap) → HasMapped m file pos p iomap → 0 < left → end ≡ min (iomap.offset + iomap.length) (pos + left) → pos < end
+  mapped-some pos left end p iomap mapped some end_is = (let high = mapped.begins.to in omega (arith, high, some, end_is))
+
+  -- what was written of the part of a range that a mapping has is written of the range
+  pub writes-mapped : (n pos left end : ℕ) (a b : LaneView) (p q : PassView) (start : PassView) (iov later : IovView) (came : Progress) (iomap : Iomap) → n ≡ pos → 0 < m.geometry.block_size → pos < end → HasMapped m file pos start iomap → end ≡ min (iomap.offset + iomap.length) (pos + left)
+      → Writes m file by n end a b p q iov later came → Writes m file by pos (pos + left) a b p q iov later came
+  writes-mapped n pos left end a b p q start iov later came iomap is some less mapped end_is from_n =
+      let w = subst (λ k. Writes m file by k end a b p q iov later came) is from_n in record {
+        laid = w.laid;
+        few = part-reads m file pos pos end (pos + left) some less (omega (arith, end_is)) (inl refl) (begun-goes m file pos left end start iomap (progress end 0 None) false (begun-of m file pos start iomap mapped) end_is refl) (le_refl pos) came.fault w.laid.acts w.few;
+        moved = w.moved;
+      }
 
   -- where work on a mapping ends, its range may be cut
   pub mapped-goes : (pos left end : ℕ) (p : PassView) (iomap : Iomap) (came : Progress) (stale : Bool) → HasMapped m file pos p iomap → end ≡ min (iomap.offset + iomap.length) (pos + left) → EndsAt m.geometry.block_size pos end came.at came.fault stale
@@ -168,7 +197,7 @@ pub record HasReached (m : MountView) (file : FileId) (by : Tag) (from to : ℕ)
   pub ended : it.unfinished ≡ None
   pub meet : Meet m.geometry.block_size from came.at to
   pub room : HasNext later it.left
-  pub writes : Writes m file by from a b p q iov later came
+  pub writes : Writes m file by from to a b p q iov later came
 
 pub not-there : {A : Type 0} (o : Option A) → is_some o ≡ false → o ≡ None
 not-there None no-fault = refl
@@ -194,19 +223,22 @@ reached-none m file by from to lane p iov it less within is goes room = record {
   ended = ap (λ (v : IterView). v.unfinished) is;
   meet = inl refl;
   room = subst (HasNext iov) (sym (ap (λ (v : IterView). v.left) is)) room;
-  writes = none-writes m file by from lane p iov (end-some m file from (omega (arith, less, within))) goes.of;
+  writes = none-writes m file by from to lane p iov (end-some m file from (omega (arith, less, within))) goes.of;
 }
 
-module _ (m : MountView) (file : FileId) (by : Tag) (from to : ℕ) (a b c : LaneView) (p q r : PassView) (iov later last : IovView) (came next : Progress) (it : IterView) (some : 0 < m.geometry.block_size) (rest : 0 < it.left) (sofar : HasReached m file by from to a b p q iov later came it) (w : Writes m file by it.pos b c q r later last next) where
-  here : Writes m file by came.at b c q r later last next
-  here = subst (λ n. Writes m file by n b c q r later last next) sofar.pos w
+module _ (m : MountView) (file : FileId) (by : Tag) (from to : ℕ) (a b c : LaneView) (p q r : PassView) (iov later last : IovView) (came next : Progress) (it : IterView) (some : 0 < m.geometry.block_size) (rest : 0 < it.left) (sofar : HasReached m file by from to a b p q iov later came it) (w : Writes m file by it.pos (it.pos + it.left) b c q r later last next) where
+  here : Writes m file by came.at to b c q r later last next
+  here = subst (λ n. Writes m file by n to b c q r later last next) sofar.pos (subst (λ n. Writes m file by it.pos n b c q r later last next) sofar.left w)
 
   before-end : came.at < to
   before-end = (let left = sofar.left in let pos = sofar.pos in omega (arith, left, pos, rest))
 
   -- the next mapping's work follows what was written
-  pub range-writes : (sum : Progress) → sum ≡ followed came next → Writes m file by from a c p r iov last sum
-  range-writes sum is = subst (Writes m file by from a c p r iov last) (sym is) (writes-then m file by from a b c p q r iov later last came next some sofar.whole (meet-on m.geometry.block_size from came.at to next.at before-end sofar.meet) sofar.writes here)
+  pub range-writes : (sum : Progress) → sum ≡ followed came next → Writes m file by from to a c p r iov last sum
+  range-writes sum is =
+      subst (Writes m file by from to a c p r iov last) (sym is)
+      (writes-then m file by from to to a b c p q r iov later last came next some sofar.whole (meet-on m.geometry.block_size from came.at to next.at before-end sofar.meet)
+      (part-reads m file from came.at to to some before-end (le_refl to) sofar.meet (inr (inl refl)) sofar.writes.laid.begins) sofar.writes here)
 
   meets : (fault : Option Fault) → fault ≡ None → GoesTo m.geometry.block_size it.pos (it.pos + it.left) next.at fault → Meet m.geometry.block_size from next.at to
   meets (Some fault) none goes = absurd (cc)
@@ -237,15 +269,15 @@ module _ (m : MountView) (file : FileId) (by : Tag) (from to : ℕ) (a b c : Lan
 
 module _ (m : MountView) (file : FileId) (by : Tag) where
   -- a write behind a step that laid nothing
-  pub writes-at : {a b : LaneView} {p q : PassView} {iov later : IovView} {came : Progress} (n from : ℕ) → n ≡ from → Writes m file by n a b p q iov later came → Writes m file by from a b p q iov later came
-  writes-at {a} {b} {p} {q} {iov} {later} {came} n from is w = subst (λ k. Writes m file by k a b p q iov later came) is w
+  pub writes-in : {a b : LaneView} {p q : PassView} {iov later : IovView} {came : Progress} (it other : IterView) → it ≡ other → Writes m file by it.pos (it.pos + it.left) a b p q iov later came → Writes m file by other.pos (other.pos + other.left) a b p q iov later came
+  writes-in {a} {b} {p} {q} {iov} {later} {came} it other is w = subst (λ (v : IterView). Writes m file by v.pos (v.pos + v.left) a b p q iov later came) is w
 
-  pub writes-behind : (from : ℕ) (a b c : LaneView) (p q r : PassView) (iov later last : IovView) (came : Progress) → 0 < m.geometry.block_size → later ≡ iov → LaysNothing m (may_write by) file a b p q 0 None → Writes m file by from b c q r later last came → Writes m file by from a c p r iov last came
-  writes-behind from a b c p q r iov later last came some same step w =
+  pub writes-behind : (from to : ℕ) (a b c : LaneView) (p q r : PassView) (iov later last : IovView) (came : Progress) → 0 < m.geometry.block_size → later ≡ iov → LaysNothing m (may_write by) file a b p q 0 None → Writes m file by from to b c q r later last came → Writes m file by from to a c p r iov last came
+  writes-behind from to a b c p q r iov later last came some same step w =
       let few = w.laid.bios in
       let n : min (0 + came.bios) (2 ^ 64 - 1) ≡ came.bios = omega (arith, few) in
-      subst (Writes m file by from a c p r iov last) (ap (λ k. progress came.at k came.fault) n)
-      (writes-then m file by from a b c p q r iov later last (progress from 0 None) came some refl (inl refl) (nothing-writes m file by from a b p q iov later 0 None some same step) w)
+      subst (Writes m file by from to a c p r iov last) (ap (λ k. progress came.at k came.fault) n)
+      (writes-then m file by from to to a b c p q r iov later last (progress from 0 None) came some refl (inl refl) (λ f acts reads. reads) (quiet-writes m file by from to a b p q iov later None some same step) w)
 
   pub maps-step : (pos : ℕ) (p q : PassView) (iomap : Iomap) (lane : LaneView) → Maps m file pos true p q iomap → LaysNothing m (may_write by) file lane lane p q 0 None
   maps-step pos p q iomap lane maps = map-nothing m file by true lane p q maps.acts None (maps.steps lane) maps.loans tt
@@ -254,8 +286,9 @@ module _ (m : MountView) (file : FileId) (by : Tag) where
   maps-goes pos p q iomap map goes = (let lane = lane_of 0 0 None in goes-on m file by (maps true) lane lane p q map.acts (map.steps lane) goes)
 
   -- where no mapping was begun nothing was written
-  pub none-begun : (pos at : ℕ) (p q : PassView) (iov : IovView) (fault : Fault) (lane : LaneView) → at ≡ pos → 0 < m.geometry.block_size → MapsNone m file true p q fault → Writes m file by pos lane lane p q iov iov (progress at 0 (Some fault))
-  none-begun pos at p q iov fault lane is some maps = subst (λ n. Writes m file by pos lane lane p q iov iov (progress n 0 (Some fault))) (sym is) (nothing-writes m file by pos lane lane p q iov iov 0 (Some fault) some refl (map-nothing m file by true lane p q maps.acts (Some fault) (maps.steps lane) maps.loans maps.cause))
+  pub none-begun : (pos to at : ℕ) (p q : PassView) (iov : IovView) (fault : Fault) (lane : LaneView) → at ≡ pos → 0 < m.geometry.block_size → MapsNone m file true p q fault → Writes m file by pos to lane lane p q iov iov (progress at 0 (Some fault))
+  none-begun pos to at p q iov fault lane is some maps =
+      subst (λ n. Writes m file by pos to lane lane p q iov iov (progress n 0 (Some fault))) (sym is) (quiet-writes m file by pos to lane lane p q iov iov (Some fault) some refl (map-nothing m file by true lane p q maps.acts (Some fault) (maps.steps lane) maps.loans maps.cause))
 
   pub none-goes : (p q : PassView) (fault : Fault) → MapsNone m file true p q fault → GoesOn m file by p → GoesOn m file by q
   none-goes p q fault none goes = (let lane = lane_of 0 0 None in goes-on m file by (maps true) lane lane p q none.acts (none.steps lane) goes)

@@ -14,6 +14,7 @@ use Rattle.io_model.specs.Lawful.{is_lawful_reply, may_meet}
 use Rattle.io_model.specs.Parts.{Span, range_in, span, span_length}
 use Rattle.io_model.specs.declared.script.Verb.TheVariants.{Pwrite}
 use Rattle.range_core.specs.declared.entry.Entry.{Entry}
+use Rattle.mount_parts.specs.MountView.{MountView}
 use Rattle.call_parts.specs.Causes.{IsCaused}
 use Rattle.buffered_write.specs.Lays.{EndsAt}
 use Rattle.call_parts.specs.Parts.{stamps_over}
@@ -23,9 +24,9 @@ use Rattle.call_parts.proofs.NumberLemmas.{answered-so}
 use Rattle.call_parts.proofs.PartLemmas.{over-none}
 use Rattle.buffered_write.proofs.DataReplyLemmas.{MayEnd, ends-before, roomed-reply}
 
-module _ (off : ℕ) (segments : List (List ℕ)) (entries : List Entry) where
+module _ (m : MountView) (off : ℕ) (segments : List (List ℕ)) (entries : List Entry) where
   -- a fault that ended a write is one that a write may meet
-  pub may-write : (f : Fault) → IsCaused entries f → may_meet true (Pwrite off segments) f ≡ true
+  pub may-write : (f : Fault) → IsCaused m entries f → may_meet true (Pwrite off segments) f ≡ true
   may-write (fault.Eio lane before after) is = refl
   may-write (fault.Worn cookie) is = refl
   may-write (fault.NoSpace wanted found) is = refl
@@ -35,7 +36,7 @@ module _ (off : ℕ) (segments : List (List ℕ)) (entries : List Entry) where
   may-write (fault.NotAligned alignment) is = absurd is
   may-write (fault.TooFar offset end) is = absurd is
 
-  may-end : (f : Option Fault) → IfSome f (IsCaused entries) → IfSome f (λ x. may_meet true (Pwrite off segments) x ≡ true)
+  may-end : (f : Option Fault) → IfSome f (IsCaused m entries) → IfSome f (λ x. may_meet true (Pwrite off segments) x ≡ true)
   may-end None cause = tt
   may-end (Some f) cause = may-write f cause
 
@@ -72,8 +73,8 @@ stamps-none size end off asked stamp some room = at (asked == 0) (nat_le end off
     at false false e = absurd (false≢true (sym e))
 
 -- a fault that a write met stands before its end
-pub ends-short : (size from to at : ℕ) (f : Option Fault) (segments : List (List ℕ)) (entries : List Entry) (range : Span) → span_length range ≡ to - from → from ≤ at → EndsAt size from to at f false → IfSome f (IsCaused entries) → MayEnd (Pwrite from segments) range (at - from) f
-ends-short size from to at f segments entries range long low ends cause = ends-before (Pwrite from segments) range size from to at f long low ends (may-end from segments entries f cause)
+pub ends-short : (m : MountView) (size from to at : ℕ) (f : Option Fault) (segments : List (List ℕ)) (entries : List Entry) (range : Span) → span_length range ≡ to - from → from ≤ at → EndsAt size from to at f false → IfSome f (IsCaused m entries) → MayEnd (Pwrite from segments) range (at - from) f
+ends-short m size from to at f segments entries range long low ends cause = ends-before (Pwrite from segments) range size from to at f long low ends (may-end m from segments entries f cause)
 
 -- a write without bytes, and one past the end
 pub room-empty : (end off asked : ℕ) → asked ≡ 0 → has_room end off asked ≡ false

@@ -2,7 +2,7 @@
 use Rattle.std.proofs.Common.{◌≡◌, ℕ, ◌+◌, ◌-◌, ◌<◌, ◌≤◌, ◌∷◌, [], true, false, Some, None, replicate, refl, sym, ap, ◌∙◌, subst, arith}
 use Rattle.std.specs.Prelude.{IfSome, IsTrue, Option}
 use Rattle.std.proofs.lemmas.Bool.{false≢true}
-use Rattle.std.proofs.lemmas.List.Elements.{All-nil}
+use Rattle.std.proofs.lemmas.List.Elements.{All-cons, All-nil}
 use Rattle.iob_base.specs.Geometry.{is_block_size}
 use Rattle.iob_base.specs.declared.answer.Answer.{Answer}
 use Rattle.iob_base.specs.declared.answer.Fault.{Fault}
@@ -30,21 +30,29 @@ use Rattle.mini_fs.specs.Tickets.{IsTicketOf}
 use Rattle.mini_fs.proofs.CallLemmas.{call-then}
 use Rattle.call_parts.specs.Parts.{read_to, stamps_over}
 use Rattle.call_parts.specs.Replies.{read_reply}
-use Rattle.call_parts.specs.Steps.{ServedBy}
+use Rattle.call_parts.specs.Steps.{IsPlaced, ServedBy}
 use Rattle.call_parts.specs.declared.progress.Progress.{Progress}
 use Rattle.call_parts.proofs.NumberLemmas.{answered-so, call-numbered}
 use Rattle.call_parts.proofs.ReadyLemmas.{some-bytes}
 use Rattle.call_parts.proofs.StepLemmas.{served-none}
 use Rattle.buffered_write.specs.Lays.{EndsAt, IsDeviceOrMemory, LieOn, laid_in}
 use Rattle.buffered_write.specs.LaysLocked.{HeldOnly, HoldsClass, LaidWith}
-use Rattle.buffered_write.specs.Pwrites.{has_room, write_reply}
-use Rattle.buffered_write.specs.Zeroes.{ZeroesRange, may_zero}
+use Rattle.buffered_write.specs.Pwrites.{IsPlain, has_room, write_reply}
+use Rattle.buffered_write.specs.Zeroes.{Zeroes, ZeroesRange, may_zero}
 use Rattle.buffered_write.proofs.DataReplyLemmas.{ends-before, left-after, roomed-reply}
-use Rattle.buffered_write.proofs.LaidLemmas.{leaves-call}
+use Rattle.buffered_write.proofs.LaidLemmas.{laid-plain, leaves-call}
+use Rattle.buffered_write.specs.PartReads.{KeepsBudget}
+use Rattle.buffered_write.proofs.PartReadLemmas.{budget-none, reads-behind}
+use Rattle.buffered_write.proofs.ZeroBudgets.{zero-budget}
 use Rattle.buffered_write.proofs.LayLemmas.{lie-none}
 use Rattle.buffered_write.proofs.WriteLemmas.{ends-high}
 use Rattle.buffered_write.proofs.WriteReplyLemmas.{reply-empty, reply-far, reply-room, room-empty, room-far, room-some, stamps-none}
-use Rattle.buffered_write.proofs.ZeroPartLemmas.{take-zeros}
+use Rattle.buffered_write.proofs.ZeroPartLemmas.{laid-of, take-zeros, zeroes-within}
+
+-- zeros of a range met no lock and no size
+pub zeros-plain : (m : MountView) (file : FileId) (by : Tag) (from to : ℕ) (a b : LaneView) (p q : PassView) (came : Progress) → came.at ≤ to → Zeroes m file by from to a b p q came → LaidWith IsPlain m (may_zero (file_at m file).mode by) file by from to (replicate (to - from) 0) a b p q came
+unfolding zeroes-within laid-of
+zeros-plain m file by from to a b p q came high z = laid-plain m (may_zero (file_at m file).mode by) file by from to (replicate (to - from) 0) a b came p q (zeroes-within m file by from to a b p q came high z) z.few
 
 -- zeros may meet a device error, and want of memory
 may-zero-meet : (off asked : ℕ) (f : Option Fault) → IfSome f IsDeviceOrMemory → IfSome f (λ x. may_meet true (Zero off asked) x ≡ true)
@@ -61,9 +69,9 @@ may-zero-meet off asked (Some (fault.Worn cookie)) stops = absurd stops
 module _ (m : MountView) (file : FileId) (call off asked : ℕ) (a b : LaneView) (p q : PassView) (answer : Answer) where
   -- zeros that had room
   pub zeroes-so : (to : ℕ) (came : Progress) → 0 < m.geometry.block_size → to ≡ off + span_length (range_in (file_end m file) off asked) → has_room (file_end m file) off asked ≡ true
-      → LaidWith (HeldOnly file) m (may_zero (tag_of p call)) file (tag_of p call) off (replicate (to - off) 0) a b (with_call p call) q came → IfSome came.fault IsDeviceOrMemory → EndsAt m.geometry.block_size off to came.at came.fault false
+      → to ≡ read_to (file_end m file) off asked → LaidWith (HeldOnly file) m (may_zero (file_at m file).mode (tag_of p call)) file (tag_of p call) off to (replicate (to - off) 0) a b (with_call p call) q came → IfSome came.fault IsDeviceOrMemory → EndsAt m.geometry.block_size off to came.at came.fault false
       → answer.reply ≡ read_reply asked (span_length (range_in (file_end m file) off asked)) (came.at - off) came.fault → answer.bios ≡ came.bios → ZeroesRange m file call off asked a b p q answer
-  zeroes-so to came some to_is room w stops ends reply bios =
+  zeroes-so to came some to_is room read_is w stops ends reply bios =
       let size = m.geometry.block_size in
       let range = range_in (file_end m file) off asked in
       let low = w.begins in
@@ -76,8 +84,9 @@ module _ (m : MountView) (file : FileId) (call off asked : ℕ) (a b : LaneView)
         count = came.at - off;
         fault = came.fault;
         acts = Number call ∷ w.acts;
-        did = call-then m file (may_zero (tag_of p call)) p (with_call p call) q (Number call ∷ []) w.acts (call-numbered m file (may_zero (tag_of p call)) p call) w.did;
+        did = call-then m file (may_zero (file_at m file).mode (tag_of p call)) p (with_call p call) q (Number call ∷ []) w.acts (call-numbered m file (may_zero (file_at m file).mode (tag_of p call)) p call) w.did;
         callers = w.callers;
+        placed = All-cons (IsPlaced m file) (Number call) w.acts tt w.placed;
         run = w.run;
         lane = w.lane;
         class = subst (λ t. HoldsClass t file call (Number call ∷ w.acts)) (sym room) (let c = w.also.0 in record { home = c.home; held = c.held; next = c.next; work = c.work; acts_are = ap (λ l. Number call ∷ l) c.acts_are; locks = c.locks });
@@ -94,6 +103,9 @@ module _ (m : MountView) (file : FileId) (call off asked : ℕ) (a b : LaneView)
         cause = w.cause;
         stops = left-after size off to came.at came.fault low ends;
         bios = bios ∙ w.bios;
+        budget = subst (λ n. KeepsBudget m file off n p (Number call ∷ w.acts)) read_is
+            (zero-budget m file (tag_of p call) off to came.fault p (Number call ∷ w.acts) (reads-behind m file off to came.fault (Number call ∷ []) w.acts refl w.few) w.did.made);
+        dry = w.dry;
       }
 
   -- zeros that had none
@@ -105,8 +117,9 @@ module _ (m : MountView) (file : FileId) (call off asked : ℕ) (a b : LaneView)
         count = 0;
         fault = None;
         acts = Number call ∷ [];
-        did = subst (λ r. CallActs m file (may_zero (tag_of p call)) p r (Number call ∷ [])) (sym q_is) (call-numbered m file (may_zero (tag_of p call)) p call);
+        did = subst (λ r. CallActs m file (may_zero (file_at m file).mode (tag_of p call)) p r (Number call ∷ [])) (sym q_is) (call-numbered m file (may_zero (file_at m file).mode (tag_of p call)) p call);
         callers = All-nil (λ (e : Entry). e.caller ≡ p.caller);
+        placed = All-cons (IsPlaced m file) (Number call) [] tt (All-nil (IsPlaced m file));
         run = refl;
         lane = subst (λ l. ServedBy a l []) lane (served-none a);
         class = subst (λ t. HoldsClass t file call (Number call ∷ [])) (sym room) (refl, refl);
@@ -119,28 +132,30 @@ module _ (m : MountView) (file : FileId) (call off asked : ℕ) (a b : LaneView)
         cause = tt;
         stops = tt;
         bios = bios;
+        budget = budget-none m file off (read_to (file_end m file) off asked) p (Number call ∷ []) refl;
+        dry = λ dax. refl;
       }
 
 -- the same, as the body of the call computes it
 module _ (m : MountView) (file : FileId) (call off asked : ℕ) (a b : LaneView) (p q : PassView) (answer : Answer) (may : MayCall m file call p) (sized : IsTrue (is_block_size m.geometry.block_size)) where
   -- of zeros that had room
   module _ (by : Tag) (start : PassView) (end to : ℕ) (came : Progress) (by_is : by ≡ tag_of p call) (start_is : start ≡ with_call p call) (end_is : end ≡ file_end m file) (to_is : to ≡ read_to end off asked) (some : asked ≡ 0 → ⊥) (near : off < end)
-      (w : LaidWith (HeldOnly file) m (may_zero by) file by off (replicate (to - off) 0) a b start q came) (stops : IfSome came.fault IsDeviceOrMemory) (ends : EndsAt m.geometry.block_size off to came.at came.fault false)
+      (w : LaidWith (HeldOnly file) m (may_zero (file_at m file).mode by) file by off to (replicate (to - off) 0) a b start q came) (stops : IfSome came.fault IsDeviceOrMemory) (ends : EndsAt m.geometry.block_size off to came.at came.fault false)
       (reply : answer.reply ≡ read_reply asked (to - off) (came.at - off) came.fault) (bios : answer.bios ≡ came.bios) where
     pub zeroes-from : ZeroesRange m file call off asked a b p q answer
     zeroes-from =
         let reach : to ≡ off + span_length (range_in (file_end m file) off asked) = to_is ∙ ap (λ n. read_to n off asked) end_is in
         let met : to - off ≡ span_length (range_in (file_end m file) off asked) = omega (arith, reach) in
         let room : has_room (file_end m file) off asked ≡ true = sym (ap (λ n. has_room n off asked) end_is) ∙ room-some end off asked some near in
-        zeroes-so m file call off asked a b p q answer to came (some-bytes m.geometry.block_size sized) reach room
-        (subst (λ t. LaidWith (HeldOnly file) m (may_zero t) file t off (replicate (to - off) 0) a b (with_call p call) q came) by_is
-        (subst (λ v. LaidWith (HeldOnly file) m (may_zero by) file by off (replicate (to - off) 0) a b v q came) start_is w))
+        zeroes-so m file call off asked a b p q answer to came (some-bytes m.geometry.block_size sized) reach room (to_is ∙ ap (λ n. read_to n off asked) end_is)
+        (subst (λ t. LaidWith (HeldOnly file) m (may_zero (file_at m file).mode t) file t off to (replicate (to - off) 0) a b (with_call p call) q came) by_is
+        (subst (λ v. LaidWith (HeldOnly file) m (may_zero (file_at m file).mode by) file by off to (replicate (to - off) 0) a b v q came) start_is w))
         stops ends (reply ∙ ap (λ n. read_reply asked n (came.at - off) came.fault) met) bios
 
     pub zeroes-leave : HoldsNone q file → LeavesPass m file call p q
     zeroes-leave free =
         let z = zeroes-from in
-        leaves-call m file (may_zero (tag_of p call)) call p q z.acts z.did w.of free (λ t is. w.tickets t (subst (λ v. IsTicketOf v t) (sym start_is) is)) (w.last ∙ ap (λ (v : PassView). v.last) start_is)
+        leaves-call m file (may_zero (file_at m file).mode (tag_of p call)) call p q z.acts z.did w.of free (λ t is. w.tickets t (subst (λ v. IsTicketOf v t) (sym start_is) is)) (w.last ∙ ap (λ (v : PassView). v.last) start_is)
 
   -- of zeros that had none
   module _ (end : ℕ) (end_is : end ≡ file_end m file) (lane : a ≡ b) (q_is : q ≡ with_call p call) (bios : answer.bios ≡ 0) where
@@ -157,7 +172,7 @@ module _ (m : MountView) (file : FileId) (call off asked : ℕ) (a b : LaneView)
 -- a call that only took its number leaves its pass so
 pub leaves-untouched : (m : MountView) (file : FileId) (call : ℕ) (p q : PassView) → MayCall m file call p → q ≡ with_call p call → LeavesPass m file call p q
 leaves-untouched m file call p q may q_is =
-    leaves-call m file (may_zero (tag_of p call)) call p q (Number call ∷ [])
-    (subst (λ r. CallActs m file (may_zero (tag_of p call)) p r (Number call ∷ [])) (sym q_is) (call-numbered m file (may_zero (tag_of p call)) p call))
+    leaves-call m file (may_zero (file_at m file).mode (tag_of p call)) call p q (Number call ∷ [])
+    (subst (λ r. CallActs m file (may_zero (file_at m file).mode (tag_of p call)) p r (Number call ∷ [])) (sym q_is) (call-numbered m file (may_zero (file_at m file).mode (tag_of p call)) p call))
     (subst (IsPassOf m) (sym q_is) (record { stripes = may.of.stripes; sizes = may.of.sizes; locks = may.of.locks; queue = may.of.queue }))
     (subst (λ v. HoldsNone v file) (sym q_is) may.free) (λ t is. subst (λ v. IsTicketOf v t) (sym q_is) is) (ap (λ (v : PassView). v.last) q_is)

@@ -1,5 +1,5 @@
 -- What a call does that gives space to the blocks of a range, and each part of it.
-use Rattle.std.specs.Prelude.{◌≡◌, ◌⊎◌, ℕ, ◌+◌, ◌-◌, ◌*◌, ◌/◌, ◌^◌, ◌<◌, ◌≤◌, ◌==◌, nat_le, min, Bool, true, false, if◌then◌else◌, Result, Ok, Err, IfErr, IfOk, IsTrue, All, List, [], ◌∷◌, ◌++◌, length}
+use Rattle.std.specs.Prelude.{◌≡◌, ◌⊎◌, ℕ, ◌+◌, ◌-◌, ◌*◌, ◌/◌, ◌%◌, ◌^◌, ◌<◌, ◌≤◌, ◌==◌, nat_le, min, Bool, true, false, if◌then◌else◌, Result, Ok, Err, IfErr, IfOk, IsTrue, All, List, [], ◌∷◌, ◌++◌, length}
 use Rattle.iob_base.specs.declared.answer.Answer.{Answer}
 use Rattle.iob_base.specs.declared.answer.Fault.{Fault}
 use Rattle.iob_base.specs.declared.answer.Fault.TheVariants.{NoMemory, NoSpace, TooFar, Worn}
@@ -23,15 +23,15 @@ use Rattle.range_core.specs.declared.entry.Outcome.{Outcome}
 use Rattle.range_core.specs.declared.entry.Outcome.TheVariants.{Refused, Took}
 use Rattle.range_core.specs.declared.fault.EventFault.{EventFault}
 use Rattle.range_core.specs.declared.fault.EventFault.TheVariants as refusal
-use Rattle.mount_parts.specs.MountView.{MountView, file_at}
-use Rattle.mini_fs.specs.Acts.{Act, HasLeft, HasTaken, bios_in, own_entries}
-use Rattle.mini_fs.specs.Acts.Act.{Leave, Number, Take}
+use Rattle.mount_parts.specs.MountView.{MountView, file_at, stripe_at}
+use Rattle.mini_fs.specs.Acts.{Act, HasLeft, HasTaken, bios_in, made_in, own_entries}
+use Rattle.mini_fs.specs.Acts.Act.{Leave, Number, Take, Turn}
 use Rattle.mini_fs.specs.CallActs.{CallActs, loans_in, lock_acts, size_acts}
 use Rattle.mini_fs.specs.Mappings.{file_end}
 use Rattle.mini_fs.specs.PageTurns.{entry_by}
 use Rattle.mini_fs.specs.PassView.{PassView}
 use Rattle.call_parts.specs.Causes.{HasOne, IsCaused}
-use Rattle.call_parts.specs.Steps.{Steps}
+use Rattle.call_parts.specs.Steps.{IsPlaced, Steps}
 
 -- the events that give space to blocks
 abbrev pub allocates : Event → Bool
@@ -94,12 +94,23 @@ module _ (caller to : ℕ) where
     pub parts : GiveParts from at given
     pub ends : EndsParts at came last
 
+-- an event that gives space to a run of blocks is at the stripe in which they all lie
+abbrev pub IsInStripe : MountView → FileId → ℕ → Event → Type 0
+IsInStripe m file stripe (Preallocate block blocks) = (stripe ≡ stripe_at m file block) × (block % 64 + blocks ≤ 64)
+IsInStripe m file stripe _ = Unit {0}
+
+abbrev pub StaysInStripe : MountView → FileId → Act → Type 0
+StaysInStripe m file (Turn stripe others own) = IsInStripe m file stripe own.event
+StaysInStripe m file _ = Unit {0}
+
 -- One turn at the part of a run of blocks that begins with a block, whatever lane the call has
 pub record AllocatesPart (m : MountView) (file : FileId) (to at : ℕ) (p q : PassView) (came : Result ℕ Fault) : Type 0 where
   pub acts : List Act
   pub steps : (lane : LaneView) → Steps m file allocates lane lane p q acts
   pub entry : Entry
   pub entries : own_entries acts ≡ entry ∷ []
+  pub stays : All (StaysInStripe m file) acts
+  pub cause : IfErr came (IsCaused m (own_entries acts))
   pub part : CameOfPart p.caller to at entry came
 
 -- The parts of a run of blocks from one up to another got space, a turn each, in order: so many blocks took some
@@ -107,6 +118,7 @@ pub record HasAllocated (m : MountView) (file : FileId) (to from at : ℕ) (p q 
   pub acts : List Act
   pub steps : (lane : LaneView) → Steps m file allocates lane lane p q acts
   pub parts : GiveParts p.caller to from at (own_entries acts)
+  pub stays : All (StaysInStripe m file) acts
   pub count_is : count ≡ all_taken (own_entries acts)
   pub few : count ≤ at - from
 
@@ -115,6 +127,8 @@ pub record AllocatesRun (m : MountView) (file : FileId) (from to : ℕ) (p q : P
   pub acts : List Act
   pub steps : (lane : LaneView) → Steps m file allocates lane lane p q acts
   pub comes : ComesTo p.caller to from came (own_entries acts)
+  pub stays : All (StaysInStripe m file) acts
+  pub cause : IfErr came (IsCaused m (own_entries acts))
   pub count : IfOk came (λ n. (n ≡ all_taken (own_entries acts)) × (n ≤ to - from))
 
 -- They did under the exclusive class of the file, which was taken before and left after
@@ -172,6 +186,7 @@ pub record Allocates (m : MountView) (file : FileId) (call off asked : ℕ) (p q
   pub came : Result ℕ Fault
   pub did : CallActs m file allocates p q acts
   pub callers : All (λ e. e.caller ≡ p.caller) (own_entries acts)
+  pub placed : All (IsPlaced m file) acts
   pub class : ((own_entries acts ≡ []) × (lock_acts acts ≡ [])) ⊎ WorksExclusive file call acts
   pub sizes : size_acts acts ≡ []
   pub stamps : stamps_in m.geometry.block_size (own_entries acts) ≡ []
@@ -181,6 +196,6 @@ pub record Allocates (m : MountView) (file : FileId) (call off asked : ℕ) (p q
   pub comes : ComesTo p.caller (blocks_end m file off asked) (first_block m off) came (own_entries acts)
   pub count : IfOk came (λ n. n ≡ all_taken (own_entries acts))
   pub reply : answer.reply ≡ alloc_reply (file_end m file) off asked came
-  pub all : (n : ℕ) (stop : Stop) → answer.reply ≡ replied.Ok n stop → (b : ℕ) → IsTrue (meets m.geometry.block_size (asked_range m file off asked) b) → HasOne (IsGivenBy p.caller b) (own_entries acts)
+  pub all : (n : ℕ) (stop : Stop) → answer.reply ≡ replied.Ok n stop → (b : ℕ) → IsTrue (meets m.geometry.block_size (asked_range m file off asked) b) → HasOne (IsGivenBy p.caller b) (made_in (stripe_at m file b) acts)
   pub lawful : IsTrue (is_lawful_reply m.geometry.grain m.geometry.block_size (file_at m file).blocks (asked_range m file off asked) true (Alloc off asked) answer.reply)
-  pub cause : IfErr came (IsCaused (own_entries acts))
+  pub cause : IfErr came (IsCaused m (own_entries acts))

@@ -3,6 +3,7 @@ use Rattle.std.specs.Prelude.{◌≡◌, ◌⊎◌, ℕ, ◌+◌, ◌-◌, ◌*�
 use Rattle.iob_base.specs.declared.answer.Fault.{Fault}
 use Rattle.iob_base.specs.declared.answer.Fault.TheVariants.{NoMemory, Worn}
 use Rattle.iob_base.specs.declared.stamp.FileId.{FileId}
+use Rattle.iob_base.specs.declared.stamp.Mode.{Mode}
 use Rattle.iob_base.specs.declared.stamp.Tag.{Tag}
 use Rattle.fault_device.specs.LaneView.{LaneView}
 use Rattle.range_core.specs.declared.entry.Entry.{Entry}
@@ -18,13 +19,14 @@ use Rattle.mini_fs.specs.CallActs.{is_tag}
 use Rattle.mini_fs.specs.PassView.{PassView}
 use Rattle.call_parts.specs.declared.progress.Progress.{Progress}
 use Rattle.buffered_write.specs.Lays.{HasLaid, IsDeviceOrMemory}
+use Rattle.buffered_write.specs.PartReads.{ReadsInPart}
 use Rattle.buffered_write.specs.Pwrites.{progress}
 use Rattle.buffered_write.specs.Zeroes.{may_zero}
 
--- the events of a clearing: blocks are wiped, and zeros are laid over bytes
-abbrev pub may_clear : Tag → Event → Bool
-may_clear tag (Wipe by block blocks) = is_tag by tag
-may_clear tag event = may_zero tag event
+-- the events of a clearing in a file of some mode: blocks are wiped, and zeros are laid over bytes
+abbrev pub may_clear : Mode → Tag → Event → Bool
+may_clear mode tag (Wipe by block blocks) = is_tag by tag
+may_clear mode tag event = may_zero mode tag event
 
 -- the faults that stop a clearing: a device error, want of memory, and a cookie that is used up
 abbrev pub StopsClear : Fault → Type 0
@@ -50,10 +52,11 @@ module _ (size from to : ℕ) where
   abbrev pub IsOfClearing : Entry → Type 0
   IsOfClearing e = ClearsOnly e.event e.outcome
 
--- Zeros were laid over a range of a file, from its begin up to the place that the clearing reached. The blocks that the range covers whole were wiped, and no others
+-- Zeros were laid over a range of a file, from its begin up to the place that the clearing reached. The blocks that the range covers whole were wiped, and no others. Only blocks that it covers in part were read first
 pub record Clears (m : MountView) (file : FileId) (by : Tag) (from to : ℕ) (before after : LaneView) (p q : PassView) (came : Progress) : Type 0 where
-  pub laid : HasLaid m (may_clear by) file by from (replicate (to - from) 0) before after p q came
+  pub laid : HasLaid m (may_clear (file_at m file).mode by) file by from (replicate (to - from) 0) before after p q came
   pub parts : All (IsOfClearing m.geometry.block_size from to) (own_entries laid.acts)
+  pub few : ReadsInPart m file from to came.fault laid.acts
 
 -- how a clearing tells why a turn wiped nothing. A wipe is refused for nothing else, but while a block of it is away
 abbrev pub wipe_fault : EventFault → Fault

@@ -3,7 +3,7 @@ use Rattle.std.specs.Prelude.{◌≡◌, ◌⊎◌, ℕ, ◌+◌, ◌-◌, ◌*�
 use Rattle.iob_base.specs.declared.answer.Fault.{Fault}
 use Rattle.iob_base.specs.declared.answer.Fault.TheVariants.{Eio, NoMemory}
 use Rattle.iob_base.specs.declared.stamp.FileId.{FileId}
-use Rattle.iob_base.specs.declared.stamp.Mode.TheVariants.{Cached}
+use Rattle.iob_base.specs.declared.stamp.Mode.TheVariants.{Cached, Dax}
 use Rattle.iob_base.specs.declared.stamp.Tag.{Tag}
 use Rattle.io_model.specs.Parts.{span}
 use Rattle.fault_device.specs.LaneView.{LaneView}
@@ -22,6 +22,7 @@ use Rattle.mini_fs.specs.CallActs.{loans_in}
 use Rattle.mini_fs.specs.Calls.{HasShares}
 use Rattle.mini_fs.specs.Mappings.{IsGivenAt, LiesInStripe}
 use Rattle.mini_fs.specs.PassView.{IsPassOf, PassView}
+use Rattle.call_parts.specs.Budgets.{AreSound}
 use Rattle.call_parts.specs.Causes.{IsCaused}
 use Rattle.call_parts.specs.Parts.{stamps_over}
 use Rattle.call_parts.specs.Steps.{Steps}
@@ -64,6 +65,10 @@ pub record LieOn (from to : ℕ) (bytes : List ℕ) (laids : List Laid) : Type 0
   pub together : bytes_laid laids ≡ bytes
   pub reach : from + length bytes ≡ to
 
+-- these acts lent no block of the file where its bytes lie in their sectors alone
+abbrev pub IsDry : MountView → FileId → List Act → Type 0
+IsDry m file acts = (file_at m file).mode ≡ Dax → loans_in acts ≡ 0
+
 -- The first of these bytes lie over a file from a place on up to the place that a call reached, in order, each block that has some of them is stamped once, and nothing else is laid or stamped. A fault that stopped it there has its cause among the call's own entries, and each loan counts as a bio
 pub record HasLaid (m : MountView) (may : Event → Bool) (file : FileId) (by : Tag) (from : ℕ) (bytes : List ℕ) (before after : LaneView) (p q : PassView) (came : Progress) : Type 0 where
   pub acts : List Act
@@ -71,8 +76,9 @@ pub record HasLaid (m : MountView) (may : Event → Bool) (file : FileId) (by : 
   pub begins : from ≤ came.at
   pub laid : LieOn from came.at (take (came.at - from) bytes) (laid_in m.geometry.block_size (own_entries acts))
   pub stamps : stamps_in m.geometry.block_size (own_entries acts) ≡ stamps_over m.geometry.block_size (span from came.at) (done_by by)
-  pub cause : IfSome came.fault (IsCaused (own_entries acts))
+  pub cause : IfSome came.fault (IsCaused m (own_entries acts))
   pub bios : came.bios ≡ min (loans_in acts) (2 ^ 64 - 1)
+  pub dry : IsDry m file acts
 
 -- a range is cut at a place where it begins or ends, or where a block ends
 abbrev pub Meet : ℕ → ℕ → ℕ → ℕ → Type 0
@@ -121,14 +127,16 @@ pub record CanLay (m : MountView) (file : FileId) (seen : Sample) (from to : ℕ
   pub space : is_hole seen.extent.kind ≡ false
   pub given : IsGivenAt p (stripe_at m file seen.extent.block) seen
 
--- Nothing is laid and no block is stamped. A fault has its cause among the step's own entries, and each loan counts as a bio
+-- Nothing is laid and no block is stamped. A fault has its cause among the step's own entries, and each loan counts as a bio. Without one no read came back failed
 pub record LaysNothing (m : MountView) (may : Event → Bool) (file : FileId) (before after : LaneView) (p q : PassView) (bios : ℕ) (fault : Option Fault) : Type 0 where
   pub acts : List Act
   pub steps : Steps m file may before after p q acts
   pub laid : laid_in m.geometry.block_size (own_entries acts) ≡ []
   pub stamps : stamps_in m.geometry.block_size (own_entries acts) ≡ []
-  pub cause : IfSome fault (IsCaused (own_entries acts))
+  pub cause : IfSome fault (IsCaused m (own_entries acts))
   pub sent : bios ≡ min (loans_in acts) (2 ^ 64 - 1)
+  pub sound : bios ≡ 0 → AreSound (own_entries acts)
+  pub dry : IsDry m file acts
 
 -- Bytes from one place of a file up to another lie in the extent of a sample that was given to the pass
 pub record LieUnder (m : MountView) (file : FileId) (seen : Sample) (from to : ℕ) (p : PassView) : Type 0 where

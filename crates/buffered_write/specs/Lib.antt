@@ -4,6 +4,7 @@ pub mod Cuts
 pub mod Grows
 pub mod Lays
 pub mod LaysLocked
+pub mod PartReads
 pub mod Punches
 pub mod Pwrites
 pub mod Truncates

@@ -20,10 +20,11 @@ use Rattle.mini_fs.specs.PassView.{PassView}
 use Rattle.call_parts.specs.Causes.{IsCaused}
 use Rattle.call_parts.specs.Parts.{read_to, stamps_over}
 use Rattle.call_parts.specs.Replies.{end_stop, read_reply}
-use Rattle.call_parts.specs.Steps.{ServedBy, dones_in}
+use Rattle.call_parts.specs.Steps.{IsPlaced, ServedBy, dones_in}
 use Rattle.buffered_write.specs.Clears.{IsOfClearing, may_clear}
-use Rattle.buffered_write.specs.Lays.{IsLeftAfter, LieOn, laid_in}
+use Rattle.buffered_write.specs.Lays.{IsDry, IsLeftAfter, LieOn, laid_in}
 use Rattle.buffered_write.specs.LaysLocked.{HeldExclusive, HoldsClass}
+use Rattle.buffered_write.specs.PartReads.{KeepsBudget}
 use Rattle.buffered_write.specs.Pwrites.{has_room}
 
 -- a clearing of a range met no size, wiped the blocks that the range covers whole, and laid zeros over bytes of those that it covers in part
@@ -38,13 +39,14 @@ IsPunched m file from to acts = HeldExclusive file acts × IsSizeless m from to 
 abbrev pub punch_reply : ℕ → ℕ → ℕ → ℕ → Option Fault → Reply
 punch_reply end off asked count fault = if has_room end off asked then read_reply asked (span_length (range_in end off asked)) count fault else reply.Ok 0 (end_stop asked 0)
 
--- What a punch of a file did, from an offset on: it made zeros of as many bytes as it answers, in order, all while it held the exclusive class, stamped each block of these once, laid and stamped nothing else, and met no size. Of its range, cut at the file's end, it wiped the blocks that it covers whole, and no others
+-- What a punch of a file did, from an offset on: it made zeros of as many bytes as it answers, in order, all while it held the exclusive class, stamped each block of these once, laid and stamped nothing else, and met no size. Of its range, cut at the file's end, it wiped the blocks that it covers whole, and no others. Where nobody else comes between, it sends at most one bio for each block that the range covers in part
 pub record Punches (m : MountView) (file : FileId) (call off asked : ℕ) (before after : LaneView) (p q : PassView) (answer : Answer) : Type 0 where
   pub count : ℕ
   pub fault : Option Fault
   pub acts : List Act
-  pub did : CallActs m file (may_clear (tag_of p call)) p q acts
+  pub did : CallActs m file (may_clear (file_at m file).mode (tag_of p call)) p q acts
   pub callers : All (λ e. e.caller ≡ p.caller) (own_entries acts)
+  pub placed : All (IsPlaced m file) acts
   pub run : bios_in acts ≡ loans_in acts
   pub lane : ServedBy before after (dones_in (own_entries acts))
   pub class : HoldsClass (has_room (file_end m file) off asked) file call acts
@@ -54,6 +56,8 @@ pub record Punches (m : MountView) (file : FileId) (call off asked : ℕ) (befor
   pub stamps : stamps_in m.geometry.block_size (own_entries acts) ≡ stamps_over m.geometry.block_size (answered_in m.geometry.block_size (range_in (file_end m file) off asked) false answer.reply) (done_by (tag_of p call))
   pub reply : answer.reply ≡ punch_reply (file_end m file) off asked count fault
   pub lawful : IsTrue (is_lawful_reply m.geometry.grain m.geometry.block_size (file_at m file).blocks (range_in (file_end m file) off asked) true (Punch off asked) answer.reply)
-  pub cause : IfSome fault (IsCaused (own_entries acts))
+  pub cause : IfSome fault (IsCaused m (own_entries acts))
   pub stops : IfSome fault (λ f. IsLeftAfter m.geometry.block_size off count)
   pub bios : answer.bios ≡ min (loans_in acts) (2 ^ 64 - 1)
+  pub budget : KeepsBudget m file off (read_to (file_end m file) off asked) p acts
+  pub dry : IsDry m file acts

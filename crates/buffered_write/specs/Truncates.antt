@@ -26,13 +26,14 @@ use Rattle.mini_fs.specs.SizeTurns.{size_at}
 use Rattle.call_parts.specs.Causes.{IsCaused}
 use Rattle.call_parts.specs.Parts.{stamps_over}
 use Rattle.call_parts.specs.Replies.{read_reply}
-use Rattle.call_parts.specs.Steps.{ServedBy, dones_in}
+use Rattle.call_parts.specs.Steps.{IsPlaced, ServedBy, dones_in}
 use Rattle.call_parts.specs.declared.progress.Progress.{Progress}
 use Rattle.buffered_write.specs.Clears.{IsOfClearing, StopsClear, may_clear}
 use Rattle.buffered_write.specs.Cuts.{CutsAt, room_events}
 use Rattle.buffered_write.specs.Grows.{AreSizeTurns}
-use Rattle.buffered_write.specs.Lays.{IsLeftAfter, LieOn, laid_in}
+use Rattle.buffered_write.specs.Lays.{IsDry, IsLeftAfter, LieOn, laid_in}
 use Rattle.buffered_write.specs.LaysLocked.{HeldExclusive, HoldsClass, LaidWith}
+use Rattle.buffered_write.specs.PartReads.{KeepsBudget}
 
 -- what a cut of a file to a size clears that found this size: the bytes from there on up to the one found, in whole blocks
 abbrev pub cut_span : MountView → FileId → ℕ → Option ℕ → Span
@@ -50,7 +51,7 @@ StopsCut size from to at (Some fault) = (at ≡ from) ⊎ ((at < to) × (at % si
 -- Zeros lie over a file from a size on, up to where a cut came whose range ends at a place. The blocks that the range covers whole were wiped, and no others. `Also` holds of the acts, which may be at the file's lock and size too
 abbrev pub ClearedWith : (List Act → Type 0) → MountView → FileId → Tag → ℕ → ℕ → LaneView → LaneView → PassView → PassView → Progress → Type 0
 ClearedWith Also m file by from to before after p q came =
-    LaidWith (λ acts. Also acts × All (IsOfClearing m.geometry.block_size from to) (own_entries acts)) m (may_clear by) file by from (replicate (to - from) 0) before after p q came
+    LaidWith (λ acts. Also acts × All (IsOfClearing m.geometry.block_size from to) (own_entries acts)) m (may_clear (file_at m file).mode by) file by from to (replicate (to - from) 0) before after p q came
 
 -- at the size of the file the acts of a cut are these, and it met no lock
 abbrev pub MeetsOnly : MountView → FileId → ℕ → List SizeEvent → List Act → Type 0
@@ -85,14 +86,15 @@ MeetsCut false m file caller by to count fault found acts = (size_acts acts ≡ 
 abbrev pub cut_reply : ℕ → ℕ → ℕ → Option Fault → Reply
 cut_reply end to count fault = if nat_lt end to then reply.Err (TooFar to end) 0 else read_reply count count count fault
 
--- What a cut of a file to a size did: under the exclusive class it looked at the size and made room for its entry, made zeros of the bytes from the size on up to the one found, in whole blocks, as many as it answers, stamped each block of these once, laid and stamped nothing else, and at last set the size, or left it after a fault
+-- What a cut of a file to a size did: under the exclusive class it looked at the size and made room for its entry, made zeros of the bytes from the size on up to the one found, in whole blocks, as many as it answers, stamped each block of these once, laid and stamped nothing else, and at last set the size, or left it after a fault. Where nobody else comes between, it sends at most one bio for each block that these bytes cover in part
 pub record Truncates (m : MountView) (file : FileId) (call to : ℕ) (before after : LaneView) (p q : PassView) (answer : Answer) : Type 0 where
   pub count : ℕ
   pub fault : Option Fault
   pub found : Option ℕ
   pub acts : List Act
-  pub did : CallActs m file (may_clear (tag_of p call)) p q acts
+  pub did : CallActs m file (may_clear (file_at m file).mode (tag_of p call)) p q acts
   pub callers : All (λ e. e.caller ≡ p.caller) (own_entries acts)
+  pub placed : All (IsPlaced m file) acts
   pub run : bios_in acts ≡ loans_in acts
   pub lane : ServedBy before after (dones_in (own_entries acts))
   pub class : HoldsClass (nat_le to (file_end m file)) file call acts
@@ -102,6 +104,8 @@ pub record Truncates (m : MountView) (file : FileId) (call to : ℕ) (before aft
   pub stamps : stamps_in m.geometry.block_size (own_entries acts) ≡ stamps_over m.geometry.block_size (answered_in m.geometry.block_size (cut_span m file to found) false answer.reply) (done_by (tag_of p call))
   pub reply : answer.reply ≡ cut_reply (file_end m file) to count fault
   pub lawful : IsTrue (is_lawful_reply m.geometry.grain m.geometry.block_size (file_at m file).blocks (cut_span m file to found) true (Trunc to) answer.reply)
-  pub cause : IfSome fault (IsCaused (own_entries acts))
+  pub cause : IfSome fault (IsCaused m (own_entries acts))
   pub stops : IfSome fault (λ f. IsLeftAfter m.geometry.block_size to count)
   pub bios : answer.bios ≡ min (loans_in acts) (2 ^ 64 - 1)
+  pub budget : KeepsBudget m file to (cut_end m file to found) p acts
+  pub dry : IsDry m file acts

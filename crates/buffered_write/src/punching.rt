@@ -1,6 +1,7 @@
 //! A hole is punched: bytes of a file are made zeros, and the blocks that they cover whole become holes.
 ghost use Rattle.std.specs.Prelude.{◌≡◌, ◌-◌, ◌<◌, ◌≤◌, false, replicate, IfSome};
 ghost use Rattle.fault_device.specs.LaneView.{lane_seen};
+ghost use Rattle.mount_parts.specs.MountView.{file_at};
 ghost use Rattle.mini_fs.specs.Calls.{LeavesPass, MayCall};
 ghost use Rattle.mini_fs.specs.Holds.{HoldsNone};
 ghost use Rattle.mini_fs.specs.Mappings.{file_end};
@@ -32,7 +33,7 @@ fn punch_locked<R: Wait>(
     requires some { from < to }
     requires within { to ≤ file_end mount.now file }
     ensures free { HoldsNone pass.new file }
-    ensures punched { LaidWith (IsPunched mount.now file from to) mount.now (may_clear by) file by from (replicate (to - from) 0) (lane_seen count tells lane.old) (lane_seen count tells lane.new) pass.old pass.new result }
+    ensures punched { LaidWith (IsPunched mount.now file from to) mount.now (may_clear (file_at mount.now file).mode by) file by from to (replicate (to - from) 0) (lane_seen count tells lane.old) (lane_seen count tells lane.new) pass.old pass.new result }
     ensures fault { IfSome result.fault StopsClear }
     ensures ends { EndsAt mount.now.geometry.block_size from to result.at result.fault false }
 {

@@ -112,7 +112,7 @@ pub(crate) fn warm<R: Wait>(
     requires block { HasBlock mount.now file block }
     ensures goes { GoesAt mount.now file by pass.new }
     ensures begun { pass.new.begun ≡ pass.old.begun }
-    ensures warmed { Warmed mount.now file (lane_seen count tells lane.old) (lane_seen count tells lane.new) pass.old pass.new result.1 result.0 }
+    ensures warmed { Warmed mount.now file block (lane_seen count tells lane.old) (lane_seen count tells lane.new) pass.old pass.new result.1 result.0 }
 {
     let fill = fill_cold(rt, mount, pass, lane, file, block, 1);
     (after_fill(fill), bios_of(fill))
@@ -137,7 +137,7 @@ fn try_store<R: Wait>(
     requires room { HasNext iov.old (to - from) }
     ensures goes { GoesOn mount.now file by pass.new }
     ensures begun { pass.new.begun ≡ pass.old.begun }
-    ensures tried { Writes mount.now file by from (lane_seen count tells lane.old) (lane_seen count tells lane.new) pass.old pass.new iov.old iov.new (came_of from to result.1 result.0) }
+    ensures tried { Writes mount.now file by from to (lane_seen count tells lane.old) (lane_seen count tells lane.new) pass.old pass.new iov.old iov.new (came_of from to result.1 result.0) }
 {
     match store_once(rt, mount, pass, file, by, seen, from, to, iov) {
         Ok(()) => (Try::Stored, 0),
@@ -171,7 +171,7 @@ pub(crate) fn store_part<R: Wait>(
     requires room { HasNext iov.old (to - from) }
     ensures goes { GoesOn mount.now file by pass.new }
     ensures begun { pass.new.begun ≡ pass.old.begun }
-    ensures written { Writes mount.now file by from (lane_seen count tells lane.old) (lane_seen count tells lane.new) pass.old pass.new iov.old iov.new result.came }
+    ensures written { Writes mount.now file by from to (lane_seen count tells lane.old) (lane_seen count tells lane.new) pass.old pass.new iov.old iov.new result.came }
     ensures ends { EndsAt mount.now.geometry.block_size from to result.came.at result.came.fault result.stale }
 {
     let mut bios = 0;

@@ -74,7 +74,7 @@ fn write_mapping<R: Wait>(
     requires room { HasNext iov.old (to - from) }
     ensures goes { GoesOn mount.now file by pass.new }
     ensures begun { pass.new.begun ≡ pass.old.begun }
-    ensures written { Writes mount.now file by from (lane_seen count tells lane.old) (lane_seen count tells lane.new) pass.old pass.new iov.old iov.new result.came }
+    ensures written { Writes mount.now file by from to (lane_seen count tells lane.old) (lane_seen count tells lane.new) pass.old pass.new iov.old iov.new result.came }
     ensures ends { EndsAt mount.now.geometry.block_size from to result.came.at result.came.fault result.stale }
 {
     let geometry = sizes(mount);
@@ -134,7 +134,7 @@ fn write_mapped<R: Wait>(
     requires some { 0 < iter.old.left }
     requires range { IsToWrite mount.now iter.old iov.old }
     ensures goes { GoesOn mount.now file by pass.new }
-    ensures written { Writes mount.now file by iter.old.pos (lane_seen count tells lane.old) (lane_seen count tells lane.new) pass.old pass.new iov.old iov.new result }
+    ensures written { Writes mount.now file by iter.old.pos (iter.old.pos + iter.old.left) (lane_seen count tells lane.old) (lane_seen count tells lane.new) pass.old pass.new iov.old iov.new result }
     ensures came { CameOn iter.old iter.new result.at }
     ensures ends { GoesTo mount.now.geometry.block_size iter.old.pos (iter.old.pos + iter.old.left) result.at result.fault }
 {
@@ -164,7 +164,7 @@ fn write_next<R: Wait>(
     requires some { 0 < iter.old.left }
     requires range { IsToWrite mount.now iter.old iov.old }
     ensures goes { GoesOn mount.now file by pass.new }
-    ensures written { Writes mount.now file by iter.old.pos (lane_seen count tells lane.old) (lane_seen count tells lane.new) pass.old pass.new iov.old iov.new result }
+    ensures written { Writes mount.now file by iter.old.pos (iter.old.pos + iter.old.left) (lane_seen count tells lane.old) (lane_seen count tells lane.new) pass.old pass.new iov.old iov.new result }
     ensures came { CameOn iter.old iter.new result.at }
     ensures ends { GoesTo mount.now.geometry.block_size iter.old.pos (iter.old.pos + iter.old.left) result.at result.fault }
 {
@@ -198,7 +198,7 @@ fn write_range<R: Wait>(
     requires within { to ≤ file_end mount.now file }
     requires room { HasNext iov.old (to - from) }
     ensures goes { GoesOn mount.now file by pass.new }
-    ensures written { Writes mount.now file by from (lane_seen count tells lane.old) (lane_seen count tells lane.new) pass.old pass.new iov.old iov.new result }
+    ensures written { Writes mount.now file by from to (lane_seen count tells lane.old) (lane_seen count tells lane.new) pass.old pass.new iov.old iov.new result }
     ensures ends { EndsAt mount.now.geometry.block_size from to result.at result.fault false }
 {
     let mut iter = IomapIter::new(file, from, to - from);
@@ -239,7 +239,7 @@ fn write_in_room<R: Wait>(
     requires some { from < to }
     requires within { to ≤ file_end mount.now file }
     requires next { HasNext iov.old (to - from) }
-    ensures written { WroteWith (UsesRoom mount.now file pass.old.caller by from (result.at - from)) mount.now file by from (lane_seen count tells lane.old) (lane_seen count tells lane.new) pass.old pass.new iov.old iov.new result }
+    ensures written { WroteWith (UsesRoom mount.now file pass.old.caller by from (result.at - from)) mount.now file by from to (lane_seen count tells lane.old) (lane_seen count tells lane.new) pass.old pass.new iov.old iov.new result }
     ensures ends { EndsAt mount.now.geometry.block_size from to result.at result.fault false }
 {
     let came = write_range(rt, mount, pass, lane, file, by, from, to, iov);
@@ -264,7 +264,7 @@ fn write_sized<R: Wait>(
     requires some { from < to }
     requires within { to ≤ file_end mount.now file }
     requires room { HasNext iov.old (to - from) }
-    ensures written { WroteWith (IsUnlocked mount.now file pass.old.caller by from result) mount.now file by from (lane_seen count tells lane.old) (lane_seen count tells lane.new) pass.old pass.new iov.old iov.new result }
+    ensures written { WroteWith (IsUnlocked mount.now file pass.old.caller by from result) mount.now file by from to (lane_seen count tells lane.old) (lane_seen count tells lane.new) pass.old pass.new iov.old iov.new result }
     ensures ends { EndsAt mount.now.geometry.block_size from to result.at result.fault false }
 {
     match make_room(rt, mount, pass, file) {
@@ -293,7 +293,7 @@ fn write_any<R: Wait>(
     requires some { from < to }
     requires within { to ≤ file_end mount.now file }
     requires room { HasNext iov.old (to - from) }
-    ensures written { WroteWith (IsUnlocked mount.now file pass.old.caller by from result) mount.now file by from (lane_seen count tells lane.old) (lane_seen count tells lane.new) pass.old pass.new iov.old iov.new result }
+    ensures written { WroteWith (IsUnlocked mount.now file pass.old.caller by from result) mount.now file by from to (lane_seen count tells lane.old) (lane_seen count tells lane.new) pass.old pass.new iov.old iov.new result }
     ensures ends { EndsAt mount.now.geometry.block_size from to result.at result.fault false }
 {
     if mount.sized(file) {
@@ -320,7 +320,7 @@ fn write_locked<R: Wait>(
     requires within { to ≤ file_end mount.now file }
     requires room { HasNext iov.old (to - from) }
     ensures free { HoldsNone pass.new file }
-    ensures written { WroteWith (IsLocked mount.now file pass.old.caller by from result) mount.now file by from (lane_seen count tells lane.old) (lane_seen count tells lane.new) pass.old pass.new iov.old iov.new result }
+    ensures written { WroteWith (IsLocked mount.now file pass.old.caller by from result) mount.now file by from to (lane_seen count tells lane.old) (lane_seen count tells lane.new) pass.old pass.new iov.old iov.new result }
     ensures ends { EndsAt mount.now.geometry.block_size from to result.at result.fault false }
 {
     let hold = mount.exclusive(rt, pass, file);

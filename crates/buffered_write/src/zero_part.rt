@@ -56,7 +56,7 @@ fn try_cached<R: Wait>(
     requires folio { from / mount.now.geometry.block_size / mount.now.geometry.folio_blocks ≡ (to - 1) / mount.now.geometry.block_size / mount.now.geometry.folio_blocks }
     ensures goes { GoesAt mount.now file by pass.new }
     ensures begun { pass.new.begun ≡ pass.old.begun }
-    ensures tried { Zeroes mount.now file by from (lane_seen count tells lane.old) (lane_seen count tells lane.new) pass.old pass.new (came_of from to result.1 result.0) }
+    ensures tried { Zeroes mount.now file by from to (lane_seen count tells lane.old) (lane_seen count tells lane.new) pass.old pass.new (came_of from to result.1 result.0) }
 {
     match zero_once(rt, mount, pass, file, by, seen, from, to) {
         Ok(()) => (Try::Stored, 0),
@@ -122,7 +122,7 @@ fn try_through<R: Wait>(
     requires under { LieUnder mount.now file seen from to pass.old }
     ensures goes { GoesAt mount.now file by pass.new }
     ensures begun { pass.new.begun ≡ pass.old.begun }
-    ensures tried { Zeroes mount.now file by from (lane_seen count tells lane.old) (lane_seen count tells lane.new) pass.old pass.new (came_of from to result.1 result.0) }
+    ensures tried { Zeroes mount.now file by from to (lane_seen count tells lane.old) (lane_seen count tells lane.new) pass.old pass.new (came_of from to result.1 result.0) }
 {
     match through_once(rt, mount, pass, lane, file, by, seen, from, to) {
         Ok(()) => (Try::Stored, 0),
@@ -147,7 +147,7 @@ fn try_zero<R: Wait>(
     requires folio { from / mount.now.geometry.block_size / mount.now.geometry.folio_blocks ≡ (to - 1) / mount.now.geometry.block_size / mount.now.geometry.folio_blocks }
     ensures goes { GoesAt mount.now file by pass.new }
     ensures begun { pass.new.begun ≡ pass.old.begun }
-    ensures tried { Zeroes mount.now file by from (lane_seen count tells lane.old) (lane_seen count tells lane.new) pass.old pass.new (came_of from to result.1 result.0) }
+    ensures tried { Zeroes mount.now file by from to (lane_seen count tells lane.old) (lane_seen count tells lane.new) pass.old pass.new (came_of from to result.1 result.0) }
 {
     match mount.mode(file) {
         Mode::Cached => try_cached(rt, mount, pass, lane, file, by, seen, from, to),
@@ -176,7 +176,7 @@ pub(crate) fn zero_part<R: Wait>(
     requires folio { from / mount.now.geometry.block_size / mount.now.geometry.folio_blocks ≡ (to - 1) / mount.now.geometry.block_size / mount.now.geometry.folio_blocks }
     ensures goes { GoesAt mount.now file by pass.new }
     ensures begun { pass.new.begun ≡ pass.old.begun }
-    ensures zeroed { Zeroes mount.now file by from (lane_seen count tells lane.old) (lane_seen count tells lane.new) pass.old pass.new result.came }
+    ensures zeroed { Zeroes mount.now file by from to (lane_seen count tells lane.old) (lane_seen count tells lane.new) pass.old pass.new result.came }
     ensures ends { EndsAt mount.now.geometry.block_size from to result.came.at result.came.fault result.stale }
 {
     let mut bios = 0;

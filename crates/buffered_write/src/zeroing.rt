@@ -1,10 +1,11 @@
 //! Zeros are laid over a range of a file.
 ghost use Rattle.std.specs.Prelude.{◌≡◌, ◌+◌, ◌-◌, ◌^◌, ◌<◌, ◌≤◌, IfSome, None, Some, false, replicate};
 ghost use Rattle.fault_device.specs.LaneView.{lane_seen};
+ghost use Rattle.mount_parts.specs.MountView.{file_at};
 ghost use Rattle.mini_fs.specs.Calls.{LeavesPass, MayCall};
 ghost use Rattle.mini_fs.specs.Holds.{HoldsNone};
 ghost use Rattle.mini_fs.specs.Mappings.{file_end};
-ghost use Rattle.buffered_write.specs.Lays.{EndsAt, GoesAt, GoesTo, HasLaid, IsDeviceOrMemory, LieUnder};
+ghost use Rattle.buffered_write.specs.Lays.{EndsAt, GoesAt, GoesTo, IsDeviceOrMemory, LieUnder};
 ghost use Rattle.buffered_write.specs.LaysLocked.{HeldOnly, LaidWith};
 ghost use Rattle.buffered_write.specs.Pwrites.{CameOn};
 ghost use Rattle.buffered_write.specs.Zeroes.{HasBegun, IsToZero, Zeroes, ZeroesRange, may_zero};
@@ -49,7 +50,7 @@ fn zero_mapping<R: Wait>(
     requires under { LieUnder mount.now file seen from to pass.old }
     ensures goes { GoesAt mount.now file by pass.new }
     ensures begun { pass.new.begun ≡ pass.old.begun }
-    ensures zeroed { Zeroes mount.now file by from (lane_seen count tells lane.old) (lane_seen count tells lane.new) pass.old pass.new result.came }
+    ensures zeroed { Zeroes mount.now file by from to (lane_seen count tells lane.old) (lane_seen count tells lane.new) pass.old pass.new result.came }
     ensures ends { EndsAt mount.now.geometry.block_size from to result.came.at result.came.fault result.stale }
 {
     let geometry = sizes(mount);
@@ -91,7 +92,7 @@ fn zero_mapped<R: Wait>(
     requires some { 0 < iter.old.left }
     requires range { IsToZero mount.now iter.old }
     ensures goes { GoesAt mount.now file by pass.new }
-    ensures zeroed { Zeroes mount.now file by iter.old.pos (lane_seen count tells lane.old) (lane_seen count tells lane.new) pass.old pass.new result }
+    ensures zeroed { Zeroes mount.now file by iter.old.pos (iter.old.pos + iter.old.left) (lane_seen count tells lane.old) (lane_seen count tells lane.new) pass.old pass.new result }
     ensures came { CameOn iter.old iter.new result.at }
     ensures ends { GoesTo mount.now.geometry.block_size iter.old.pos (iter.old.pos + iter.old.left) result.at result.fault }
 {
@@ -120,7 +121,7 @@ fn zero_next<R: Wait>(
     requires some { 0 < iter.old.left }
     requires range { IsToZero mount.now iter.old }
     ensures goes { GoesAt mount.now file by pass.new }
-    ensures zeroed { Zeroes mount.now file by iter.old.pos (lane_seen count tells lane.old) (lane_seen count tells lane.new) pass.old pass.new result }
+    ensures zeroed { Zeroes mount.now file by iter.old.pos (iter.old.pos + iter.old.left) (lane_seen count tells lane.old) (lane_seen count tells lane.new) pass.old pass.new result }
     ensures came { CameOn iter.old iter.new result.at }
     ensures ends { GoesTo mount.now.geometry.block_size iter.old.pos (iter.old.pos + iter.old.left) result.at result.fault }
 {
@@ -149,7 +150,7 @@ pub(crate) fn zero_span<R: Wait>(
     requires some { from < to }
     requires within { to ≤ file_end mount.now file }
     ensures goes { GoesAt mount.now file by pass.new }
-    ensures zeroed { HasLaid mount.now (may_zero by) file by from (replicate (to - from) 0) (lane_seen count tells lane.old) (lane_seen count tells lane.new) pass.old pass.new result }
+    ensures zeroed { Zeroes mount.now file by from to (lane_seen count tells lane.old) (lane_seen count tells lane.new) pass.old pass.new result }
     ensures fault { IfSome result.fault IsDeviceOrMemory }
     ensures ends { EndsAt mount.now.geometry.block_size from to result.at result.fault false }
 {
@@ -188,7 +189,7 @@ fn zero_locked<R: Wait>(
     requires some { from < to }
     requires within { to ≤ file_end mount.now file }
     ensures free { HoldsNone pass.new file }
-    ensures zeroed { LaidWith (HeldOnly file) mount.now (may_zero by) file by from (replicate (to - from) 0) (lane_seen count tells lane.old) (lane_seen count tells lane.new) pass.old pass.new result }
+    ensures zeroed { LaidWith (HeldOnly file) mount.now (may_zero (file_at mount.now file).mode by) file by from to (replicate (to - from) 0) (lane_seen count tells lane.old) (lane_seen count tells lane.new) pass.old pass.new result }
     ensures fault { IfSome result.fault IsDeviceOrMemory }
     ensures ends { EndsAt mount.now.geometry.block_size from to result.at result.fault false }
 {

@@ -8,7 +8,7 @@ use Rattle.turn_cell.specs.Stakes.{total}
 use Rattle.range_core.specs.BlockStates.{BlockState, lent_for, read_back, state_after, state_by}
 use Rattle.range_core.specs.EntryCounts.{lendings, one_where}
 use Rattle.range_core.specs.Happened.{found_by, is_at_home, is_cold_in, lawful_from}
-use Rattle.range_core.specs.Kinds.{is_delalloc, is_hole, is_mapped}
+use Rattle.range_core.specs.Kinds.{is_delalloc, is_mapped}
 use Rattle.range_core.specs.Spots.{in_run, is_met}
 use Rattle.range_core.specs.declared.entry.Entry.{Entry}
 use Rattle.range_core.specs.declared.entry.Event.{Event}
@@ -17,7 +17,7 @@ use Rattle.range_core.specs.declared.entry.Outcome.{Outcome}
 use Rattle.range_core.specs.declared.entry.Outcome.TheVariants as outcome
 use Rattle.range_core.specs.declared.lending.Lender.TheVariants.{Reading}
 use Rattle.mount_parts.specs.MountView.{MountView, stripe_at}
-use Rattle.mini_fs.specs.Acts.{Act, made_in, own_entries, seen_in}
+use Rattle.mini_fs.specs.Acts.{Act, made_in, own_entries}
 use Rattle.mini_fs.specs.Acts.Act.{Turn, SizeTurn, Busy, Open, Close, Take, Refused, Leave, Run, Note, Number}
 use Rattle.mini_fs.specs.CallActs.{loans_in}
 use Rattle.mini_fs.specs.PassView.{PassView}

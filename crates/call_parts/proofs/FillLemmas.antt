@@ -1,6 +1,6 @@
 -- Tries that read cold blocks into the cache, from the turns that they are made of.
 use Rattle.std.proofs.Common.{◌≡◌, ℕ, ◌+◌, ◌-◌, ◌<◌, ◌≤◌, inl, inr, true, false, Bool, List, [], ◌∷◌, ◌++◌, length, if◌then◌else◌, refl, sym, ap, ◌∙◌, subst, arith}
-use Rattle.std.specs.Prelude.{◌%◌, IsTrue, None, Ok, Err, Option, Result, Some, option_to_list, slice_get}
+use Rattle.std.specs.Prelude.{All, ◌%◌, IsTrue, None, Ok, Err, Option, Result, Some, option_to_list, slice_get}
 use Rattle.std.proofs.lemmas.List.Elements.{All-cons, All-nil}
 use Rattle.std.proofs.lemmas.Option.{none-some}
 use Rattle.iob_base.specs.declared.part.Part.{Part}
@@ -43,11 +43,11 @@ use Rattle.mini_fs.proofs.PassActs.{acted-pass}
 use Rattle.mini_fs.proofs.Ready.{run-lies, stripe-here}
 use Rattle.call_parts.specs.Budgets.{IsReadBelow, IsSound, LendsAmong}
 use Rattle.call_parts.specs.Fills.{CameBack, CarriedBack, FillCame, Fills, IsRefusedLoan, fill_after, fill_fault, fill_refused, fills}
-use Rattle.call_parts.specs.Steps.{ServedBy}
+use Rattle.call_parts.specs.Steps.{CameOfRise, IsQuiet, ServedBy}
 use Rattle.call_parts.specs.declared.cold.Fill.{Fill}
 use Rattle.call_parts.specs.declared.cold.Fill.TheVariants.{Failed, Filled, NoMemory}
 use Rattle.call_parts.proofs.FewLemmas.{few-none}
-use Rattle.call_parts.proofs.StepLemmas.{served-none, steps-none}
+use Rattle.call_parts.proofs.StepLemmas.{quiet-placed, served-none, steps-none}
 
 -- one bio was run
 run-long : {T : Type 0} (b : Bio T) (bios : List (Bio T)) (dones : List Done) → AreRun (b ∷ []) bios dones → length dones ≡ 1
@@ -64,12 +64,19 @@ one-done d [] dones one is = is
 one-done d (e ∷ []) dones one is = absurd (let n : length dones ≡ length (e ∷ d ∷ []) = ap length is in omega (arith, n, one))
 one-done d (e ∷ f ∷ rest) dones one is = absurd (let n : length dones ≡ length (e ∷ f ∷ (rest ++ d ∷ [])) = ap length is in omega (arith, n, one))
 
+-- the one bio failed only where the count of its lane rose
+one-rose : {T : Type 0} (b : Bio T) (bios : List (Bio T)) (d : Done) → AreRun (b ∷ []) bios (d ∷ []) → All CameOfRise (d ∷ [])
+one-rose b [] d run = absurd run
+one-rose b (r ∷ bios) d run = All-cons CameOfRise d [] run.0.rose (All-nil CameOfRise)
+
 -- the lane served the one bio
 pub served-one : {T : Type 0} (b : Bio T) (sent bios : List (Bio T)) (dones rest : List Done) (d : Done) (before after : LaneView) → sent ≡ b ∷ [] → AreRun sent bios dones → dones ≡ rest ++ option_to_list (Some d)
     → RanLane before after → OwnFailures before.number before.count after.count dones → ServedBy before after (d ∷ [])
 served-one b sent bios dones rest d before after is run told ran own =
-    let one : length dones ≡ 1 = run-long b bios dones (subst (λ l. AreRun l bios dones) is run) in
-    record { ran = ran; own = subst (OwnFailures before.number before.count after.count) (one-done d rest dones one told) own }
+    let alone : AreRun (b ∷ []) bios dones = subst (λ l. AreRun l bios dones) is run in
+    let one : length dones ≡ 1 = run-long b bios dones alone in
+    let same : dones ≡ d ∷ [] = one-done d rest dones one told in
+    record { ran = ran; own = subst (OwnFailures before.number before.count after.count) same own; rose = one-rose b bios d (subst (AreRun (b ∷ []) bios) same alone) }
 
 -- blocks of one stripe of a cached file may be lent for a read on a ticket without a loan
 pub lend-ready : (m : MountView) (file : FileId) (block most : ℕ) (p q : PassView) (t : TicketView) → IsLaidOut m → (file_at m file).mode ≡ Cached → 0 < most → block + most ≤ (file_at m file).blocks → block % 64 + most ≤ 64
@@ -166,6 +173,7 @@ module _ (m : MountView) (file : FileId) (block most : ℕ) (p q : PassView) (ha
       let acts : List Act = Open s ∷ Turn s others lends ∷ Run 1 ∷ last in
       let own = All-cons (λ (e : Entry). e.caller ≡ p.caller) lends (returns ∷ []) refl (All-cons (λ (e : Entry). e.caller ≡ p.caller) returns [] refl (All-nil (λ (e : Entry). e.caller ≡ p.caller))) in
       let made = All-cons (λ (e : Entry). IsTrue (fills e.event)) lends (returns ∷ []) refl (All-cons (λ (e : Entry). IsTrue (fills e.event)) returns [] refl (All-nil (λ (e : Entry). IsTrue (fills e.event)))) in
+      let quiet = All-cons IsQuiet lends (returns ∷ []) refl (All-cons IsQuiet returns [] refl (All-nil IsQuiet)) in
       let here : IsActAt m file (Open s) = (block, has, at) in
       record {
         acts = acts;
@@ -184,6 +192,7 @@ module _ (m : MountView) (file : FileId) (block most : ℕ) (p q : PassView) (ha
           sizes = refl;
           last = (acted-pass acts p q acted).last;
           callers = own;
+          placed = quiet-placed m file acts quiet;
           run = refl;
           lane = lane;
           tickets = keeps;
@@ -207,6 +216,7 @@ module _ (m : MountView) (file : FileId) (block most : ℕ) (p q : PassView) (ha
       let acts : List Act = Open s ∷ Turn s others lends ∷ Close s ∷ [] in
       let own = All-cons (λ (e : Entry). e.caller ≡ p.caller) lends [] refl (All-nil (λ (e : Entry). e.caller ≡ p.caller)) in
       let made = All-cons (λ (e : Entry). IsTrue (fills e.event)) lends [] refl (All-nil (λ (e : Entry). IsTrue (fills e.event))) in
+      let quiet = All-cons IsQuiet lends [] refl (All-nil IsQuiet) in
       let here : IsActAt m file (Open s) = (block, has, at) in
       record {
         acts = acts;
@@ -223,6 +233,7 @@ module _ (m : MountView) (file : FileId) (block most : ℕ) (p q : PassView) (ha
           sizes = refl;
           last = (acted-pass acts p q acted).last;
           callers = own;
+          placed = quiet-placed m file acts quiet;
           run = refl;
           lane = served-none lane;
           tickets = keeps;

@@ -2,8 +2,11 @@ pub mod FillLemmas
 pub mod MapLemmas
 pub mod NumberLemmas
 pub mod PartLemmas
+pub mod PlacedLemmas
+pub mod PromiseLemmas
 pub mod ReadyLemmas
 pub mod ReplyLemmas
+pub mod SpaceLemmas
 pub mod StepLemmas
 pub mod BudgetLemmas
 pub mod FewLemmas

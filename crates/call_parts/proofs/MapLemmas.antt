@@ -1,11 +1,12 @@
 -- The turns that map a range of a file, and those that end a mapping, are a step of a call.
-use Rattle.std.proofs.Common.{◌≡◌, ℕ, zero, suc, ◌+◌, ◌*◌, ◌<◌, inl, inr, Bool, true, false, List, [], ◌∷◌, ◌++◌, length, Some, None, Option, Ok, Err, refl, sym, ap, ◌∙◌, subst, arith, append_assoc}
-use Rattle.std.specs.Prelude.{◌⊎◌, ◌&&◌, IfSome, IsSomeAnd, IsTrue, MatchOption, Result, slice_get}
+use Rattle.std.proofs.Common.{◌≡◌, ℕ, zero, suc, ◌+◌, ◌*◌, ◌<◌, inl, inr, Bool, true, false, List, [], ◌∷◌, ◌++◌, length, Some, None, Option, Ok, Err, refl, sym, ap, ◌∙◌, subst, arith, append_assoc, append-nil}
+use Rattle.std.specs.Prelude.{◌⊎◌, ◌&&◌, All, IfSome, IsSomeAnd, IsTrue, MatchOption, Result, slice_get}
 use Rattle.std.proofs.lemmas.Bool.{false≢true}
-use Rattle.std.proofs.lemmas.List.Elements.{All-cons, All-nil}
+use Rattle.std.proofs.lemmas.List.Elements.{All-append, All-cons, All-nil}
 use Rattle.iob_base.specs.declared.answer.Fault.{Fault}
 use Rattle.iob_base.specs.declared.stamp.FileId.{FileId}
 use Rattle.io_model.specs.declared.file.Extent.{Extent}
+use Rattle.io_model.specs.declared.file.Kind.TheVariants.{Hole}
 use Rattle.fault_device.specs.LaneView.{LaneView}
 use Rattle.iomap_core.specs.IterView.{IterView, began}
 use Rattle.iomap_core.specs.Mappings.{IsBegun}
@@ -42,13 +43,15 @@ use Rattle.mini_fs.specs.declared.begun.Begun.{Begun}
 use Rattle.mini_fs.proofs.ActLemmas.{turned-act}
 use Rattle.mini_fs.proofs.CallLemmas.{loans-append, own_entries-append}
 use Rattle.mini_fs.proofs.MapBlocks.{block-within}
-use Rattle.mini_fs.proofs.MapSteps.{look-starts}
+use Rattle.mini_fs.proofs.MapSteps.{look-given, look-starts}
 use Rattle.mini_fs.proofs.Opens.{of-noted, open-lies}
 use Rattle.mini_fs.proofs.Seats.{of-with_seat, tickets-with_seat}
 use Rattle.call_parts.specs.Causes.{IsCaused}
-use Rattle.call_parts.specs.Maps.{EndsMapping, Maps, MapsNone, mapping_fault, maps}
-use Rattle.call_parts.specs.Steps.{ServedBy, Steps, done_of, is_quiet}
-use Rattle.call_parts.proofs.StepLemmas.{caused-right, served-none, steps-none, steps-then}
+use Rattle.call_parts.specs.Maps.{GivesBack, Maps, MapsNone, mapping_fault, maps}
+use Rattle.call_parts.specs.Promises.{Promised, PromisedNone, TookBack, is_promise}
+use Rattle.call_parts.specs.Steps.{IsPlaced, ServedBy, Steps, done_of, is_quiet}
+use Rattle.call_parts.proofs.SpaceLemmas.{ShortOf, promise-short}
+use Rattle.call_parts.proofs.StepLemmas.{caused-right, quiet-act, served-none, steps-none, steps-then}
 
 -- the block at whose stripe a turn is made
 abbrev pub block_of : MapTurn → ℕ
@@ -64,12 +67,19 @@ event_of (Promise seen n answer) = event.Reserve seen n
 event_of (Place b n answer) = event.Preallocate b n
 event_of (TakeBack b n count) = event.Unreserve b n
 
--- what a look or a promise came to
+-- looks, promises and what gives space to blocks leave no stamps
+turn-quiet : (t : MapTurn) → IsTrue (is_quiet (event_of t))
+turn-quiet (Look b most sample) = refl
+turn-quiet (Promise seen n answer) = refl
+turn-quiet (Place b n answer) = refl
+turn-quiet (TakeBack b n count) = refl
+
+-- what a look, a promise or a return of promises came to
 abbrev pub CameTo : MapTurn → Outcome → Type 0
 CameTo (Look b most sample) o = o ≡ Sampled sample
 CameTo (Promise seen n answer) o = o ≡ reserve_outcome answer
 CameTo (Place b n answer) o = Unit {0}
-CameTo (TakeBack b n count) o = Unit {0}
+CameTo (TakeBack b n count) o = o ≡ Counted count
 
 -- A turn is one act of the pass, which lends nothing and takes nothing back
 pub record IsOneAct (m : MountView) (file : FileId) (t : MapTurn) (p q : PassView) : Type 0 where
@@ -101,7 +111,7 @@ one-act m file (Promise seen n (Ok promised)) p q t = entry-act m file (Promise 
 one-act m file (Promise seen n (Err fault)) p q t = entry-act m file (Promise seen n (Err fault)) p q t.turned.others t.turned.entry (Refused fault) (turned-act t) t.turned.done.entry_is refl refl refl
 one-act m file (Place b n (Ok taken)) p q t = entry-act m file (Place b n (Ok taken)) p q t.turned.others t.turned.entry _ (turned-act t) t.turned.done.ok.entry_is tt refl refl
 one-act m file (Place b n (Err fault)) p q t = entry-act m file (Place b n (Err fault)) p q t.turned.others t.turned.entry (Refused fault) (turned-act t) t.turned.done.err.entry_is tt refl refl
-one-act m file (TakeBack b n count) p q t = entry-act m file (TakeBack b n count) p q t.turned.others t.turned.entry (Counted count) (turned-act t) t.turned.done.entry_is tt refl refl
+one-act m file (TakeBack b n count) p q t = entry-act m file (TakeBack b n count) p q t.turned.others t.turned.entry (Counted count) (turned-act t) t.turned.done.entry_is refl refl refl
 
 -- an entry that a turn made stands last in what the pass has seen, so the pass was given its sample
 at-end : {A : Type 0} (xs : List A) (x : A) → slice_get (xs ++ x ∷ []) (length xs) ≡ Some x
@@ -126,6 +136,16 @@ pub record AreTurns (m : MountView) (file : FileId) (may : Event → Bool) (p q 
 no-loans : (acts more : List Act) → loans_in acts ≡ 0 → loans_in more ≡ 0 → loans_in (acts ++ more) ≡ 0
 no-loans acts more first later = loans-append acts more ∙ (let e : loans_in acts + loans_in more ≡ 0 = omega (arith, first, later) in e)
 
+-- Turns that map a range and promise space to no block
+pub record AreVain (m : MountView) (file : FileId) (may : Event → Bool) (p q : PassView) (acts : List Act) : Type 0 where
+  pub turns : AreTurns m file may p q acts
+  pub vain : All PromisedNone (own_entries acts)
+
+-- a turn promised nothing whose event came to something else
+vain-one : (m : MountView) (file : FileId) (t : MapTurn) (p q : PassView) (is : IsOneAct m file t p q) (o : Outcome) → is.own.outcome ≡ o → is_promise (event_of t) o ≡ false → All PromisedNone (is.own ∷ [])
+vain-one m file t p q is o came none =
+    All-cons PromisedNone is.own [] ((λ i. is_promise (is.event_is i) (came i)) ∙ none) (All-nil PromisedNone)
+
 module _ (m : MountView) (file : FileId) (may : Event → Bool) where
   turns-none : (p q : PassView) → IsPassOf m p → q ≡ p → AreTurns m file may p q []
   turns-none p q of is = subst (λ v. AreTurns m file may p v []) (sym is) (record { of = of; steps = λ lane. steps-none m file may lane p of; begun = refl; loans = refl })
@@ -138,10 +158,19 @@ module _ (m : MountView) (file : FileId) (may : Event → Bool) where
     loans = no-loans acts more first.loans later.loans;
   }
 
+  vain-none : (p q : PassView) → IsPassOf m p → q ≡ p → AreVain m file may p q []
+  vain-none p q of is = record { turns = turns-none p q of is; vain = All-nil PromisedNone }
+
+  vain-then : (p q r : PassView) (acts more : List Act) → AreVain m file may p q acts → AreVain m file may q r more → AreVain m file may p r (acts ++ more)
+  vain-then p q r acts more first later = record {
+    turns = turns-then p q r acts more first.turns later.turns;
+    vain = subst (All PromisedNone) (sym (own_entries-append acts more)) (All-append PromisedNone (own_entries acts) (own_entries more) first.vain later.vain);
+  }
+
   -- one turn
   pub act-step : (b : ℕ) (others : List Entry) (own : Entry) (p q : PassView) → IsPassOf m p → HasBlock m file b → HasTurned (stripe_at m file b) others own p q → IsTrue (may own.event) → own.caller ≡ p.caller
-      → has_lent own.outcome ≡ false → done_of own.event own.outcome ≡ [] → (lane : LaneView) → Steps m file may lane lane p q (Turn (stripe_at m file b) others own ∷ [])
-  act-step b others own p q of has did mine caller lent gave lane =
+      → has_lent own.outcome ≡ false → done_of own.event own.outcome ≡ [] → IsPlaced m file (Turn (stripe_at m file b) others own) → (lane : LaneView) → Steps m file may lane lane p q (Turn (stripe_at m file b) others own ∷ [])
+  act-step b others own p q of has did mine caller lent gave placed lane =
       let stripe = stripe_at m file b in
       let act = Turn stripe others own in
       let made : Entry → Type 0 = λ e. IsTrue (may e.event) in
@@ -153,6 +182,7 @@ module _ (m : MountView) (file : FileId) (may : Event → Bool) where
         sizes = refl;
         last = ap (λ (v : PassView). v.last) did.pass_is;
         callers = All-cons ours own [] caller (All-nil ours);
+        placed = All-cons (IsPlaced m file) act [] placed (All-nil (IsPlaced m file));
         run = sym (ap (λ l. one_where l + 0) lent);
         lane = subst (ServedBy lane lane) (sym (ap (λ l. l ++ []) gave)) (served-none lane);
         tickets = subst (KeepsTickets p) (sym did.pass_is) (tickets-with_seat p stripe did.before did.after did.here did.cell (others ++ own ∷ [], sym (append_assoc did.before.seen others (own ∷ [])) ∙ sym did.seen));
@@ -161,7 +191,7 @@ module _ (m : MountView) (file : FileId) (may : Event → Bool) where
   turn-one : (t : MapTurn) (p q : PassView) → IsPassOf m p → HasBlock m file (block_of t) → IsTrue (may (event_of t)) → (is : IsOneAct m file t p q) → AreTurns m file may p q (Turn (stripe_at m file (block_of t)) is.others is.own ∷ [])
   turn-one t p q of has mine is = record {
     of = subst (IsPassOf m) (sym is.did.pass_is) (of-with_seat p (stripe_at m file (block_of t)) is.did.before is.did.after is.did.here is.did.cell m of);
-    steps = act-step (block_of t) is.others is.own p q of has is.did (subst (λ e. IsTrue (may e)) (sym is.event_is) mine) is.caller is.lent is.gave;
+    steps = act-step (block_of t) is.others is.own p q of has is.did (subst (λ e. IsTrue (may e)) (sym is.event_is) mine) is.caller is.lent is.gave (quiet-act m file (stripe_at m file (block_of t)) is.others is.own (subst (λ e. IsTrue (is_quiet e)) (sym is.event_is) (turn-quiet t)));
     begun = ap (λ (v : PassView). v.begun) is.did.pass_is;
     loans = ap (λ l. one_where l + 0) is.lent;
   }
@@ -175,6 +205,7 @@ module _ (m : MountView) (file : FileId) (may : Event → Bool) where
     sizes = refl;
     last = ap (λ (v : PassView). v.last) is;
     callers = All-nil (λ (e : Entry). e.caller ≡ p.caller);
+    placed = All-cons (IsPlaced m file) (Note begun) [] tt (All-nil (IsPlaced m file));
     run = refl;
     lane = served-none lane;
     tickets = λ t ticket. subst (λ s. IsTicketOf s t) (sym is) (record { caller = ticket.caller; seat = ticket.seat; here = ticket.here; loan = ticket.loan });
@@ -193,23 +224,24 @@ only-one : (m : MountView) (file : FileId) (t : MapTurn) (p q : PassView) → Ma
 only-one m file t p q made = subst (MakesTurn m file t p) (sym made.2) made.1
 
 -- the fault of a begin whose promise was so refused rests on that entry
-fault-refused : (fault : EventFault) (hindered : BeginFault) (own : Entry) → begin_fault fault ≡ Some hindered → own.outcome ≡ Refused fault → IsCaused (own ∷ []) (mapping_fault hindered)
-fault-refused (refusal.Worn cookie) hindered own is e = let same : begin.Worn cookie ≡ hindered = cc in subst (λ h. IsCaused (own ∷ []) (mapping_fault h)) same (0, own, refl, e)
-fault-refused refusal.NoMemory hindered own is e = let same : begin.NoMemory ≡ hindered = cc in subst (λ h. IsCaused (own ∷ []) (mapping_fault h)) same tt
-fault-refused (refusal.NoSpace wanted found) hindered own is e = let same : begin.NoSpace wanted found ≡ hindered = cc in subst (λ h. IsCaused (own ∷ []) (mapping_fault h)) same (0, own, refl, e)
-fault-refused (refusal.Stale x y) hindered own is e = absurd (cc)
-fault-refused (refusal.Away x y) hindered own is e = absurd (cc)
-fault-refused (refusal.Cold x) hindered own is e = absurd (cc)
-fault-refused (refusal.Settled x) hindered own is e = absurd (cc)
-fault-refused (refusal.Unattached x) hindered own is e = absurd (cc)
-fault-refused (refusal.Dirty x) hindered own is e = absurd (cc)
-fault-refused (refusal.Poison x) hindered own is e = absurd (cc)
+fault-refused : (m : MountView) (fault : EventFault) (hindered : BeginFault) (own : Entry) → begin_fault fault ≡ Some hindered → own.outcome ≡ Refused fault → ShortOf m fault → IsCaused m (own ∷ []) (mapping_fault hindered)
+fault-refused m (refusal.Worn cookie) hindered own is e short = let same : begin.Worn cookie ≡ hindered = cc in subst (λ h. IsCaused m (own ∷ []) (mapping_fault h)) same (0, own, refl, e)
+fault-refused m refusal.NoMemory hindered own is e short = let same : begin.NoMemory ≡ hindered = cc in subst (λ h. IsCaused m (own ∷ []) (mapping_fault h)) same tt
+fault-refused m (refusal.NoSpace wanted found) hindered own is e short = let same : begin.NoSpace wanted found ≡ hindered = cc in subst (λ h. IsCaused m (own ∷ []) (mapping_fault h)) same ((0, own, refl, e), short)
+fault-refused m (refusal.Stale x y) hindered own is e short = absurd (cc)
+fault-refused m (refusal.Away x y) hindered own is e short = absurd (cc)
+fault-refused m (refusal.Cold x) hindered own is e short = absurd (cc)
+fault-refused m (refusal.Settled x) hindered own is e short = absurd (cc)
+fault-refused m (refusal.Unattached x) hindered own is e short = absurd (cc)
+fault-refused m (refusal.Dirty x) hindered own is e short = absurd (cc)
+fault-refused m (refusal.Poison x) hindered own is e short = absurd (cc)
 
 module _ (m : MountView) (file : FileId) (pos most : ℕ) (has : HasBlock m file (block_at m pos)) where
   -- a mapping that rests on the sample of the last turn is begun
   begun-maps : (writes new : Bool) (p r q : PassView) (acts : List Act) (sample : Sample) (iomap : Iomap) → AreTurns m file (maps writes) p r acts → NotesBegun (Ok (begun_of m file new sample)) r (Ok iomap) q → IsOpen m q iomap
-      → sample.extent.block ≡ block_at m pos → IsGivenAt r (stripe_at m file (block_at m pos)) sample → (new ≡ true → writes ≡ true) → (writes ≡ true → is_hole sample.extent.kind ≡ false) → Maps m file pos writes p q iomap
-  begun-maps writes new p r q acts sample iomap turns noted unended starts given promised space =
+      → sample.extent.block ≡ block_at m pos → IsGivenAt r (stripe_at m file (block_at m pos)) sample → (new ≡ true → writes ≡ true) → (writes ≡ true → is_hole sample.extent.kind ≡ false) → Promised new sample (own_entries acts)
+      → Maps m file pos writes p q iomap
+  begun-maps writes new p r q acts sample iomap turns noted unended starts given promised space kept =
       let begun = begun_of m file new sample in
       let is = noted.1 in
       let same : Ok iomap ≡ Ok (mapping_of m file new sample) = noted.0 in
@@ -228,77 +260,86 @@ module _ (m : MountView) (file : FileId) (pos most : ℕ) (has : HasBlock m file
         given = subst (λ v. IsGivenAt v (stripe_at m file (block_at m pos)) sample) (sym is) given;
         promised = λ e. promised (sym (ap (λ (i : Iomap). i.flags.new) iomap_is) ∙ e);
         space = space;
+        promises = subst (λ t. Promised t sample (own_entries (acts ++ Note (Some begun) ∷ []))) (sym (ap (λ (i : Iomap). i.flags.new) iomap_is)) (subst (Promised new sample) (sym (own_entries-append acts (Note (Some begun) ∷ []) ∙ append-nil (own_entries acts))) kept);
       }
 
-  look-turn : (writes : Bool) (p q : PassView) (sample : Sample) → IsPassOf m p → (is : IsOneAct m file (Look (block_at m pos) most sample) p q) → AreTurns m file (maps writes) p q (Turn (stripe_at m file (block_at m pos)) is.others is.own ∷ [])
-  look-turn writes p q sample of is = turn-one m file (maps writes) (Look (block_at m pos) most sample) p q of has refl is
+  look-turn : (writes : Bool) (p q : PassView) (sample : Sample) → IsPassOf m p → (is : IsOneAct m file (Look (block_at m pos) most sample) p q) → AreVain m file (maps writes) p q (Turn (stripe_at m file (block_at m pos)) is.others is.own ∷ [])
+  look-turn writes p q sample of is = record { turns = turn-one m file (maps writes) (Look (block_at m pos) most sample) p q of has refl is; vain = vain-one m file (Look (block_at m pos) most sample) p q is (Sampled sample) is.came refl }
 
   promise-turn : (p q : PassView) (seen : Sample) (n : ℕ) (answer : Result Sample EventFault) → IsPassOf m p → seen.extent.block ≡ block_at m pos → (is : IsOneAct m file (Promise seen n answer) p q)
       → AreTurns m file (maps true) p q (Turn (stripe_at m file seen.extent.block) is.others is.own ∷ [])
   promise-turn p q seen n answer of starts is = turn-one m file (maps true) (Promise seen n answer) p q of (subst (HasBlock m file) (sym starts) has) refl is
 
+  refused-turn : (p q : PassView) (seen : Sample) (n : ℕ) (fault : EventFault) → IsPassOf m p → seen.extent.block ≡ block_at m pos → (is : IsOneAct m file (Promise seen n (Err fault)) p q)
+      → AreVain m file (maps true) p q (Turn (stripe_at m file seen.extent.block) is.others is.own ∷ [])
+  refused-turn p q seen n fault of starts is = record { turns = promise-turn p q seen n (Err fault) of starts is; vain = vain-one m file (Promise seen n (Err fault)) p q is (Refused fault) is.came refl }
+
   -- the last turn was a look
-  look-maps : (writes : Bool) (p r s q : PassView) (acts : List Act) (sample : Sample) (iomap : Iomap) → AreTurns m file (maps writes) p r acts → MakesTurn m file (Look (block_at m pos) most sample) r s
+  look-maps : (writes : Bool) (p r s q : PassView) (acts : List Act) (sample : Sample) (iomap : Iomap) → AreVain m file (maps writes) p r acts → MakesTurn m file (Look (block_at m pos) most sample) r s
       → NotesBegun (Ok (begun_of m file false sample)) s (Ok iomap) q → IsOpen m q iomap → (writes ≡ true → is_hole sample.extent.kind ≡ false) → Maps m file pos writes p q iomap
   look-maps writes p r s q acts sample iomap before look noted unended space =
       let is = one-act m file (Look (block_at m pos) most sample) r s look in
       let act = Turn (stripe_at m file (block_at m pos)) is.others is.own in
-      begun-maps writes false p s q (acts ++ act ∷ []) sample iomap (turns-then m file (maps writes) p r s acts (act ∷ []) before (look-turn writes r s sample before.of is)) noted unended
-      (look-starts m file r s (block_at m pos) most sample look) (turned-given (stripe_at m file (block_at m pos)) is.others is.own r s sample is.did is.came) (λ e. absurd (cc)) space
+      let all = vain-then m file (maps writes) p r s acts (act ∷ []) before (look-turn writes r s sample before.turns.of is) in
+      begun-maps writes false p s q (acts ++ act ∷ []) sample iomap all.turns noted unended
+      (look-starts m file r s (block_at m pos) most sample look) (turned-given (stripe_at m file (block_at m pos)) is.others is.own r s sample is.did is.came) (λ e. absurd (cc)) space all.vain
 
   -- the last turn was a promise
-  promise-maps : (p r s q : PassView) (acts : List Act) (seen promised : Sample) (n : ℕ) (iomap : Iomap) → AreTurns m file (maps true) p r acts → seen.extent.block ≡ block_at m pos → MakesTurn m file (Promise seen n (Ok promised)) r s
+  promise-maps : (p r s q : PassView) (acts : List Act) (seen promised : Sample) (n : ℕ) (iomap : Iomap) → AreVain m file (maps true) p r acts → seen.extent.block ≡ block_at m pos → MakesTurn m file (Promise seen n (Ok promised)) r s
       → NotesBegun (Ok (begun_of m file true promised)) s (Ok iomap) q → IsOpen m q iomap → Maps m file pos true p q iomap
   promise-maps p r s q acts seen promised n iomap before starts turn noted unended =
       let is = one-act m file (Promise seen n (Ok promised)) r s turn in
       let act = Turn (stripe_at m file seen.extent.block) is.others is.own in
       let sample_is = turn.turned.done.ok.sample_is in
-      begun-maps true true p s q (acts ++ act ∷ []) promised iomap (turns-then m file (maps true) p r s acts (act ∷ []) before (promise-turn r s seen n (Ok promised) before.of starts is)) noted unended
+      begun-maps true true p s q (acts ++ act ∷ []) promised iomap (turns-then m file (maps true) p r s acts (act ∷ []) before.turns (promise-turn r s seen n (Ok promised) before.turns.of starts is)) noted unended
       (ap (λ (x : Sample). x.extent.block) sample_is ∙ starts)
       (subst (λ b. IsGivenAt s (stripe_at m file b) promised) starts (turned-given (stripe_at m file seen.extent.block) is.others is.own r s promised is.did is.came))
       (λ _. refl) (λ _. ap (λ (x : Sample). is_hole x.extent.kind) sample_is)
+      (record { before = own_entries acts; last = is.own; seen = seen; blocks = n; entries_are = own_entries-append acts (act ∷ []); none = before.vain; event_is = is.event_is; gave = is.came })
 
   -- a look and a promise that was refused
-  refused-maps : (p r s q : PassView) (acts : List Act) (seen : Sample) (n : ℕ) (fault : EventFault) (hindered : BeginFault) → AreTurns m file (maps true) p r acts → seen.extent.block ≡ block_at m pos → MakesTurn m file (Promise seen n (Err fault)) r s
-      → begin_fault fault ≡ Some hindered → q ≡ s → MapsNone m file true p q (mapping_fault hindered)
-  refused-maps p r s q acts seen n fault hindered before starts turn hinders same =
-      let is = one-act m file (Promise seen n (Err fault)) r s turn in
+  refused-maps : (p r s q : PassView) (acts : List Act) (seen : Sample) (fault : EventFault) (hindered : BeginFault) → AreVain m file (maps true) p r acts → seen.extent.block ≡ block_at m pos → MakesTurn m file (Promise seen seen.extent.length (Err fault)) r s
+      → begin_fault fault ≡ Some hindered → 0 < seen.extent.length → seen.extent.kind ≡ Hole → IsGivenAt r (stripe_at m file (block_at m pos)) seen → q ≡ s → MapsNone m file true p q (mapping_fault hindered)
+  refused-maps p r s q acts seen fault hindered before starts turn hinders some hole given same =
+      let is = one-act m file (Promise seen seen.extent.length (Err fault)) r s turn in
       let act = Turn (stripe_at m file seen.extent.block) is.others is.own in
-      let turns = turns-then m file (maps true) p r s acts (act ∷ []) before (promise-turn r s seen n (Err fault) before.of starts is) in
+      let all = vain-then m file (maps true) p r s acts (act ∷ []) before (refused-turn r s seen seen.extent.length fault before.turns.of starts is) in
+      let turns = all.turns in
       subst (λ v. MapsNone m file true p v (mapping_fault hindered)) (sym same) (record {
         acts = acts ++ act ∷ [];
         steps = turns.steps;
         loans = turns.loans;
         asked = refl;
         same = turns.begun;
-        cause = subst (λ l. IsCaused l (mapping_fault hindered)) (sym (own_entries-append acts (act ∷ []))) (caused-right (own_entries acts) (is.own ∷ []) (mapping_fault hindered) (fault-refused fault hindered is.own hinders is.came));
+        cause = subst (λ l. IsCaused m l (mapping_fault hindered)) (sym (own_entries-append acts (act ∷ []))) (caused-right m (own_entries acts) (is.own ∷ []) (mapping_fault hindered) (fault-refused m fault hindered is.own hinders is.came (promise-short m file r s seen fault some hole (subst (λ b. IsGivenAt r (stripe_at m file b) seen) (sym starts) given) turn)));
+        unpromised = all.vain;
       })
 
   -- tries that were stale
-  stale-turns : (tries : List StaleTry) (p q : PassView) → IsPassOf m p → MakesTurns m file (turns_of (stale_turns (block_at m pos) most) tries) p q → (acts : List Act) × AreTurns m file (maps true) p q acts
-  stale-turns [] p q of made = ([], turns-none m file (maps true) p q of made)
+  stale-turns : (tries : List StaleTry) (p q : PassView) → IsPassOf m p → MakesTurns m file (turns_of (stale_turns (block_at m pos) most) tries) p q → (acts : List Act) × AreVain m file (maps true) p q acts
+  stale-turns [] p q of made = ([], vain-none m file (maps true) p q of made)
   stale-turns (t ∷ tries) p q of (r, look, (s, promise, rest)) =
       let answer : Result Sample EventFault = Err (refusal.Stale t.seen.cookie t.now) in
       let first = one-act m file (Look (block_at m pos) most t.seen) p r look in
       let next = one-act m file (Promise t.seen t.seen.extent.length answer) r s promise in
       let looked = look-turn true p r t.seen of first in
-      let promised = promise-turn r s t.seen t.seen.extent.length answer looked.of (look-starts m file p r (block_at m pos) most t.seen look) next in
-      let later = stale-turns tries s q promised.of rest in
+      let promised = refused-turn r s t.seen t.seen.extent.length (refusal.Stale t.seen.cookie t.now) looked.turns.of (look-starts m file p r (block_at m pos) most t.seen look) next in
+      let later = stale-turns tries s q promised.turns.of rest in
       let one = Turn (stripe_at m file (block_at m pos)) first.others first.own ∷ [] in
       let two = Turn (stripe_at m file t.seen.extent.block) next.others next.own ∷ [] in
-      (one ++ (two ++ later.0), turns-then m file (maps true) p r q one (two ++ later.0) looked (turns-then m file (maps true) r s q two later.0 promised later.1))
+      (one ++ (two ++ later.0), vain-then m file (maps true) p r q one (two ++ later.0) looked (vain-then m file (maps true) r s q two later.0 promised later.1))
 
   -- a begin that looks
   look-begun : (p r q : PassView) (turns : List MapTurn) (came : Result Begun BeginFault) (iomap : Iomap) → IsPassOf m p → MakesTurns m file turns p r → IsLook m file (block_at m pos) most turns came → NotesBegun came r (Ok iomap) q → IsOpen m q iomap → Maps m file pos false p q iomap
   look-begun p r q turns came iomap of made is noted unended =
       let look = only-one m file (Look (block_at m pos) most is.sample) p r (subst (λ ts. MakesTurns m file ts p r) is.turns_are made) in
-      look-maps false p p r q [] is.sample iomap (turns-none m file (maps false) p p of refl) look (subst (λ c. NotesBegun c r (Ok iomap) q) is.answer_is noted) unended (λ e. absurd (cc))
+      look-maps false p p r q [] is.sample iomap (vain-none m file (maps false) p p of refl) look (subst (λ c. NotesBegun c r (Ok iomap) q) is.answer_is noted) unended (λ e. absurd (cc))
 
   look-not_refused : (r q : PassView) (turns : List MapTurn) (came : Result Begun BeginFault) (hindered : BeginFault) → IsLook m file (block_at m pos) most turns came → NotesBegun came r (Err hindered) q → ⊥
   look-not_refused r q turns came hindered is noted = let no = (subst (λ c. NotesBegun c r (Err hindered) q) is.answer_is noted).0 in cc
 
   -- the last try of a begin that writes
-  write-ends : (p r s q : PassView) (acts : List Act) (turns : List MapTurn) (came : Result Begun BeginFault) (iomap : Iomap) → AreTurns m file (maps true) p r acts → MakesTurns m file turns r s → EndsWrite m file (block_at m pos) most turns came → NotesBegun came s (Ok iomap) q → IsOpen m q iomap
+  write-ends : (p r s q : PassView) (acts : List Act) (turns : List MapTurn) (came : Result Begun BeginFault) (iomap : Iomap) → AreVain m file (maps true) p r acts → MakesTurns m file turns r s → EndsWrite m file (block_at m pos) most turns came → NotesBegun came s (Ok iomap) q → IsOpen m q iomap
       → Maps m file pos true p q iomap
   write-ends p r s q acts turns came iomap before made (inl found) noted unended =
       let look = only-one m file (Look (block_at m pos) most found.sample) r s (subst (λ ts. MakesTurns m file ts r s) found.turns_are made) in
@@ -310,11 +351,11 @@ module _ (m : MountView) (file : FileId) (pos most : ℕ) (has : HasBlock m file
       promised (Ok sample) is (t, look, rest) =
           let first = one-act m file (Look (block_at m pos) most asked.sample) r t look in
           let act = Turn (stripe_at m file (block_at m pos)) first.others first.own in
-          promise-maps p t s q (acts ++ act ∷ []) asked.sample sample asked.sample.extent.length iomap (turns-then m file (maps true) p r t acts (act ∷ []) before (look-turn true r t asked.sample before.of first)) (look-starts m file r t (block_at m pos) most asked.sample look)
+          promise-maps p t s q (acts ++ act ∷ []) asked.sample sample asked.sample.extent.length iomap (vain-then m file (maps true) p r t acts (act ∷ []) before (look-turn true r t asked.sample before.turns.of first)) (look-starts m file r t (block_at m pos) most asked.sample look)
           (only-one m file (Promise asked.sample asked.sample.extent.length (Ok sample)) t s rest) (subst (λ c. NotesBegun c s (Ok iomap) q) is noted) unended
       promised (Err fault) is made = let no = (subst (λ c. NotesBegun c s (Ok iomap) q) is.2 noted).0 in absurd (cc)
 
-  write-fails : (p r s q : PassView) (acts : List Act) (turns : List MapTurn) (came : Result Begun BeginFault) (hindered : BeginFault) → AreTurns m file (maps true) p r acts → MakesTurns m file turns r s → EndsWrite m file (block_at m pos) most turns came
+  write-fails : (p r s q : PassView) (acts : List Act) (turns : List MapTurn) (came : Result Begun BeginFault) (hindered : BeginFault) → AreVain m file (maps true) p r acts → MakesTurns m file turns r s → EndsWrite m file (block_at m pos) most turns came
       → NotesBegun came s (Err hindered) q → MapsNone m file true p q (mapping_fault hindered)
   write-fails p r s q acts turns came hindered before made (inl found) noted = let no = (subst (λ c. NotesBegun c s (Err hindered) q) found.answer_is noted).0 in absurd (cc)
   write-fails p r s q acts turns came hindered before made (inr asked) noted =
@@ -329,8 +370,8 @@ module _ (m : MountView) (file : FileId) (pos most : ℕ) (has : HasBlock m file
           let ends = subst (λ c. NotesBegun c s (Err hindered) q) is.2 noted in
           let told : Err hindered ≡ Err is.0 = ends.0 in
           let same : is.0 ≡ hindered = cc in
-          refused-maps p t s q (acts ++ act ∷ []) asked.sample asked.sample.extent.length fault hindered (turns-then m file (maps true) p r t acts (act ∷ []) before (look-turn true r t asked.sample before.of first)) (look-starts m file r t (block_at m pos) most asked.sample look)
-          (only-one m file (Promise asked.sample asked.sample.extent.length (Err fault)) t s rest) (is.1 ∙ ap Some same) ends.1
+          refused-maps p t s q (acts ++ act ∷ []) asked.sample fault hindered (vain-then m file (maps true) p r t acts (act ∷ []) before (look-turn true r t asked.sample before.turns.of first)) (look-starts m file r t (block_at m pos) most asked.sample look)
+          (only-one m file (Promise asked.sample asked.sample.extent.length (Err fault)) t s rest) (is.1 ∙ ap Some same) look.turned.done.lies.some asked.hole (look-given m file r t (block_at m pos) most asked.sample look) ends.1
 
   write-begun : (p s q : PassView) (turns : List MapTurn) (came : Result Begun BeginFault) (iomap : Iomap) → IsPassOf m p → MakesTurns m file turns p s → IsWrite m file (block_at m pos) most turns came → NotesBegun came s (Ok iomap) q → IsOpen m q iomap → Maps m file pos true p q iomap
   write-begun p s q turns came iomap of made is noted unended =
@@ -399,25 +440,35 @@ first-holds false b both = both
 
 -- an end takes back promises only where its begin made some
 back-turns : (m : MountView) (file : FileId) (new leaves : Bool) (extent : Extent) (p q : PassView) (turns : List MapTurn) → IsPassOf m p → LiesInStripe m file extent → (leaves ≡ true → new ≡ true) → MakesTurns m file turns p q → TakesBack leaves extent turns
-    → (acts : List Act) × AreTurns m file (maps new) p q acts
-back-turns m file new false extent p q turns of lies may made is = ([], turns-none m file (maps new) p q of (subst (λ ts. MakesTurns m file ts p q) is made))
+    → (acts : List Act) × AreTurns m file (maps new) p q acts × TookBack leaves extent (own_entries acts)
+back-turns m file new false extent p q turns of lies may made is = ([], turns-none m file (maps new) p q of (subst (λ ts. MakesTurns m file ts p q) is made), refl)
 back-turns m file new true extent p q turns of lies may made is =
     let t = TakeBack extent.block extent.length is.0 in
     let act = one-act m file t p q (only-one m file t p q (subst (λ ts. MakesTurns m file ts p q) is.1 made)) in
     let some = lies.some in
-    let within = lies.within in
-    (Turn (stripe_at m file extent.block) act.others act.own ∷ [], turn-one m file (maps new) t p q of (omega arith) (may refl) act)
+    let within = lies.within in (
+      Turn (stripe_at m file extent.block) act.others act.own ∷ [],
+      turn-one m file (maps new) t p q of (omega arith) (may refl) act,
+      record { own = act.own; count = is.0; entries_are = refl; event_is = act.event_is; outcome_is = act.came },
+    )
 
 -- an end of a mapping
-pub ends-mapping : (m : MountView) (file : FileId) (iomap : Iomap) (written : ℕ) (p q : PassView) → iomap.file ≡ file → IsOpen m p iomap → Ends m p iomap written q → EndsMapping m file iomap.flags.new p q
+pub ends-mapping : (m : MountView) (file : FileId) (iomap : Iomap) (written : ℕ) (p q : PassView) → iomap.file ≡ file → IsOpen m p iomap → Ends m p iomap written q → GivesBack m file iomap written p q
 ends-mapping m file iomap written p q at unended ends =
     let new = iomap.flags.new in
-    let back = back-turns m iomap.file new (leaves_promises iomap written) ends.begun.sample.extent p ends.reached ends.made.turns unended.of (open-lies m p iomap ends.begun unended ends.was) (first-holds new _) ends.made.make ends.made.are in
-    subst (λ f. EndsMapping m f new p q) at (record {
-      acts = back.0 ++ Note None ∷ [];
-      steps = noted-step m iomap.file (maps new) None p ends.reached q back.0 back.1 ends.pass_is;
-      loans = no-loans back.0 (Note None ∷ []) back.1.loans refl;
-      none = ap (λ (v : PassView). v.begun) ends.pass_is;
+    let leaves = leaves_promises iomap written in
+    let extent = ends.begun.sample.extent in
+    let back = back-turns m iomap.file new leaves extent p ends.reached ends.made.turns unended.of (open-lies m p iomap ends.begun unended ends.was) (first-holds new _) ends.made.make ends.made.are in
+    subst (λ f. GivesBack m f iomap written p q) at (record {
+      ends = record {
+        acts = back.0 ++ Note None ∷ [];
+        steps = noted-step m iomap.file (maps new) None p ends.reached q back.0 back.1 ends.pass_is;
+        loans = no-loans back.0 (Note None ∷ []) back.1.loans refl;
+        none = ap (λ (v : PassView). v.begun) ends.pass_is;
+      };
+      begun = ends.begun;
+      was = ends.was;
+      back = subst (TookBack leaves extent) (sym (own_entries-append back.0 (Note None ∷ []) ∙ append-nil (own_entries back.0))) back.2;
     })
 
 -- what may make the events that map a range: looks, and where it is to be written promises of space and their return

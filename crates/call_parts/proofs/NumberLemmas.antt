@@ -1,6 +1,6 @@
 -- What the number of a call, its tag and its stamps come to.
-use Rattle.std.proofs.Common.{inl, inr, ◌≡◌, ℕ, ◌+◌, ◌-◌, ◌<◌, ◌≤◌, ◌==◌, ◌++◌, ◌∷◌, [], List, min, sum, Bool, true, false, Some, None, length, if◌then◌else◌, refl, sym, ap, ◌∙◌, subst, arith, append_assoc}
-use Rattle.std.specs.Prelude.{◌^◌, ◌&&◌, ◌/◌, IfNone, IfSome, IsTrue, Option, nat_lt, slice_get}
+use Rattle.std.proofs.Common.{inl, inr, ◌≡◌, ℕ, ◌+◌, ◌-◌, ◌<◌, ◌≤◌, ◌==◌, ◌++◌, ◌∷◌, [], List, min, Bool, true, false, Some, None, if◌then◌else◌, refl, sym, ap, ◌∙◌, subst, arith, append_assoc}
+use Rattle.std.specs.Prelude.{◌&&◌, ◌/◌, IsTrue, Option, nat_lt}
 use Rattle.std.proofs.lemmas.Bool.{cases_eq, eq-eqb, eqb-true}
 use Rattle.std.proofs.lemmas.Bool.Decides.{nat_tests}
 use Rattle.std.proofs.lemmas.List.Elements.{All-nil, All-cons}
@@ -12,7 +12,7 @@ use Rattle.iob_base.specs.declared.stamp.Stamp.{Stamp}
 use Rattle.iob_base.specs.declared.stamp.Tag.{Tag}
 use Rattle.io_model.specs.Answered.{answered_in}
 use Rattle.io_model.specs.Parts.{range_in, span, span_length}
-use Rattle.range_core.specs.EntryStamps.{stamps_by, stamps_in, stamps_of}
+use Rattle.range_core.specs.EntryStamps.{stamps_in, stamps_of}
 use Rattle.range_core.specs.Stamps.{stamps_from}
 use Rattle.range_core.specs.declared.entry.Entry.{Entry}
 use Rattle.range_core.specs.declared.entry.Event.{Event}
@@ -22,9 +22,9 @@ use Rattle.mini_fs.specs.CallActs.{CallActs, IsActAt, is_tag, with_call}
 use Rattle.mini_fs.specs.PassView.{PassView}
 use Rattle.mini_fs.specs.TicketView.{TicketView}
 use Rattle.mini_fs.specs.Tickets.{IsTicketOf}
-use Rattle.call_parts.specs.Parts.{read_to, stamps_over}
+use Rattle.call_parts.specs.Parts.{stamps_over}
 use Rattle.call_parts.specs.Replies.{read_reply}
-use Rattle.call_parts.proofs.PartLemmas.{over-met, over-none, over-parts}
+use Rattle.call_parts.proofs.PartLemmas.{over-none}
 
 -- two lists of stamps put one after the other
 pub stamps-append : (size : ℕ) (es more : List Entry) → stamps_in size (es ++ more) ≡ stamps_in size es ++ stamps_in size more

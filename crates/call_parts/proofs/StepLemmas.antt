@@ -2,11 +2,12 @@
 use Rattle.std.proofs.Common.{◌≡◌, ℕ, zero, suc, ◌+◌, ◌≤◌, inl, Bool, List, [], ◌∷◌, ◌++◌, Some, refl, sym, ap, ◌∙◌, subst, arith, append_assoc}
 use Rattle.std.specs.Prelude.{All, IsTrue, None, Option, slice_get}
 use Rattle.std.proofs.lemmas.Bool.{false≢true}
-use Rattle.std.proofs.lemmas.List.Elements.{All-append, All-head, All-nil, All-tail, All-weaker}
+use Rattle.std.proofs.lemmas.List.Elements.{All-append, All-cons, All-head, All-nil, All-tail, All-weaker}
 use Rattle.std.proofs.lemmas.Option.{none-some}
 use Rattle.iob_base.specs.declared.answer.Fault.{Fault}
 use Rattle.iob_base.specs.declared.answer.Fault.TheVariants.{Again, Eio, NoMemory, NoSpace, NotAligned, SyncEio, TooFar, Worn}
 use Rattle.iob_base.specs.declared.stamp.FileId.{FileId}
+use Rattle.iob_base.specs.declared.stamp.Stamp.{Stamp}
 use Rattle.fault_device.specs.LaneView.{LaneView}
 use Rattle.fault_device.specs.declared.lane.Done.{Done}
 use Rattle.fault_device.proofs.Runs.{ran_more, ran_none}
@@ -19,7 +20,7 @@ use Rattle.range_core.specs.declared.entry.Event.{Event}
 use Rattle.range_core.specs.declared.entry.Event.TheVariants as event
 use Rattle.range_core.specs.declared.entry.Outcome.{Outcome}
 use Rattle.range_core.specs.declared.fault.EventFault.TheVariants as refusal
-use Rattle.mount_parts.specs.MountView.{MountView}
+use Rattle.mount_parts.specs.MountView.{MountView, stripe_at}
 use Rattle.mini_fs.specs.Acts.{Act, bios_in, own_entries, seen_in}
 use Rattle.mini_fs.specs.Acts.Act.{Turn, SizeTurn, Busy, Open, Close, Take, Refused, Leave, Run, Note, Number}
 use Rattle.mini_fs.specs.CallActs.{loans_in, lock_acts, size_acts}
@@ -28,7 +29,7 @@ use Rattle.mini_fs.proofs.CallEnds.{acted-caller}
 use Rattle.mini_fs.proofs.CallLemmas.{call-none, call-then, loans-append, lock_acts-append, own_entries-append, size_acts-append}
 use Rattle.call_parts.specs.Causes.{HasFailed, HasOne, IsCaused, WasRefusedFor}
 use Rattle.call_parts.specs.Reads.{bytes_given, bytes_read, given_in, seen_at}
-use Rattle.call_parts.specs.Steps.{IsQuiet, ServedBy, Steps, done_of, dones_in, is_quiet}
+use Rattle.call_parts.specs.Steps.{CameOfRise, IsPlaced, IsQuiet, ServedBy, Steps, done_of, dones_in, is_quiet}
 
 -- bios of acts put one after another
 pub bios-append : (acts more : List Act) → bios_in (acts ++ more) ≡ bios_in acts + bios_in more
@@ -69,7 +70,7 @@ apart-then number low mid high (d ∷ dones) more own theirs first later = (
 
 -- a lane that did nothing, and one that served two steps
 pub served-none : (lane : LaneView) → ServedBy lane lane []
-served-none lane = record { ran = (0, ran_none lane); own = record { own = All-nil (IsOwn lane.number lane.count lane.count); apart = tt } }
+served-none lane = record { ran = (0, ran_none lane); own = record { own = All-nil (IsOwn lane.number lane.count lane.count); apart = tt }; rose = All-nil CameOfRise }
 
 pub served-then : (a b c : LaneView) (dones more : List Done) → ServedBy a b dones → ServedBy b c more → ServedBy a c (dones ++ more)
 served-then a b c dones more first later =
@@ -86,6 +87,7 @@ served-then a b c dones more first later =
             (own-wider a.number b.count c.count a.count c.count more low (omega arith) theirs);
         apart = apart-then a.number a.count b.count c.count dones more first.own.own theirs first.own.apart later.own.apart;
       };
+      rose = All-append CameOfRise dones more first.rose later.rose;
     }
 
 -- no act is a step, and two steps are one
@@ -97,6 +99,7 @@ steps-none m file may lane p of = record {
   sizes = refl;
   last = refl;
   callers = All-nil (λ (e : Entry). e.caller ≡ p.caller);
+  placed = All-nil (IsPlaced m file);
   run = refl;
   lane = served-none lane;
   tickets = λ t is. is;
@@ -117,6 +120,7 @@ steps-then m file may a b c p q r acts more first later =
       sizes = size_acts-append acts more ∙ ap (λ l. l ++ size_acts more) first.sizes ∙ later.sizes;
       last = later.last ∙ first.last;
       callers = subst (All (λ (e : Entry). e.caller ≡ p.caller)) (sym entries) (All-append (λ (e : Entry). e.caller ≡ p.caller) (own_entries acts) (own_entries more) first.callers (subst (λ n. All (λ (e : Entry). e.caller ≡ n) (own_entries more)) same later.callers));
+      placed = All-append (IsPlaced m file) acts more first.placed later.placed;
       run = bios ∙ ap (λ n. n + bios_in more) ran ∙ ap (λ n. loans_in acts + n) ran' ∙ sym loans;
       lane = subst (ServedBy a c) (sym (ap dones_in entries ∙ dones-append (own_entries acts) (own_entries more))) (served-then a b c (dones_in (own_entries acts)) (dones_in (own_entries more)) first.lane later.lane);
       tickets = λ t is. later.tickets t (first.tickets t is);
@@ -136,6 +140,7 @@ steps-may m file may might a b p q acts more s = record {
   sizes = s.sizes;
   last = s.last;
   callers = s.callers;
+  placed = s.placed;
   run = s.run;
   lane = s.lane;
   tickets = s.tickets;
@@ -153,25 +158,25 @@ module _ {A : Type 0} (P : A → Type 0) where
   one-right (z ∷ xs) ys one = let rest = one-right xs ys one in (suc rest.0, rest.1, rest.2, rest.3)
 
 -- what caused a fault of a part of a call caused it in the whole
-pub caused-left : (entries more : List Entry) (fault : Fault) → IsCaused entries fault → IsCaused (entries ++ more) fault
-caused-left entries more (Eio lane before after) is = subst (HasOne (HasFailed lane before after)) (sym (dones-append entries more)) (one-left (HasFailed lane before after) (dones_in entries) (dones_in more) is)
-caused-left entries more (Worn cookie) is = one-left (WasRefusedFor (refusal.Worn cookie)) entries more is
-caused-left entries more (NoSpace wanted found) is = one-left (WasRefusedFor (refusal.NoSpace wanted found)) entries more is
-caused-left entries more NoMemory is = tt
-caused-left entries more (SyncEio seen count) is = absurd is
-caused-left entries more (Again why) is = absurd is
-caused-left entries more (NotAligned alignment) is = absurd is
-caused-left entries more (TooFar offset end) is = absurd is
+pub caused-left : (m : MountView) (entries more : List Entry) (fault : Fault) → IsCaused m entries fault → IsCaused m (entries ++ more) fault
+caused-left m entries more (Eio lane before after) is = subst (HasOne (HasFailed lane before after)) (sym (dones-append entries more)) (one-left (HasFailed lane before after) (dones_in entries) (dones_in more) is)
+caused-left m entries more (Worn cookie) is = one-left (WasRefusedFor (refusal.Worn cookie)) entries more is
+caused-left m entries more (NoSpace wanted found) is = (one-left (WasRefusedFor (refusal.NoSpace wanted found)) entries more is.0, is.1)
+caused-left m entries more NoMemory is = tt
+caused-left m entries more (SyncEio seen count) is = absurd is
+caused-left m entries more (Again why) is = absurd is
+caused-left m entries more (NotAligned alignment) is = absurd is
+caused-left m entries more (TooFar offset end) is = absurd is
 
-pub caused-right : (entries more : List Entry) (fault : Fault) → IsCaused more fault → IsCaused (entries ++ more) fault
-caused-right entries more (Eio lane before after) is = subst (HasOne (HasFailed lane before after)) (sym (dones-append entries more)) (one-right (HasFailed lane before after) (dones_in entries) (dones_in more) is)
-caused-right entries more (Worn cookie) is = one-right (WasRefusedFor (refusal.Worn cookie)) entries more is
-caused-right entries more (NoSpace wanted found) is = one-right (WasRefusedFor (refusal.NoSpace wanted found)) entries more is
-caused-right entries more NoMemory is = tt
-caused-right entries more (SyncEio seen count) is = absurd is
-caused-right entries more (Again why) is = absurd is
-caused-right entries more (NotAligned alignment) is = absurd is
-caused-right entries more (TooFar offset end) is = absurd is
+pub caused-right : (m : MountView) (entries more : List Entry) (fault : Fault) → IsCaused m more fault → IsCaused m (entries ++ more) fault
+caused-right m entries more (Eio lane before after) is = subst (HasOne (HasFailed lane before after)) (sym (dones-append entries more)) (one-right (HasFailed lane before after) (dones_in entries) (dones_in more) is)
+caused-right m entries more (Worn cookie) is = one-right (WasRefusedFor (refusal.Worn cookie)) entries more is
+caused-right m entries more (NoSpace wanted found) is = (one-right (WasRefusedFor (refusal.NoSpace wanted found)) entries more is.0, is.1)
+caused-right m entries more NoMemory is = tt
+caused-right m entries more (SyncEio seen count) is = absurd is
+caused-right m entries more (Again why) is = absurd is
+caused-right m entries more (NotAligned alignment) is = absurd is
+caused-right m entries more (TooFar offset end) is = absurd is
 
 -- an entry that is quiet leaves no stamps and gives no bytes
 quiet-stamp : (size : ℕ) (e : Event) (o : Outcome) → IsTrue (is_quiet e) → stamps_by size e o ≡ []
@@ -187,6 +192,10 @@ quiet-stamp size (event.DaxGet by seen from to) o is = absurd (false≢true is)
 quiet-stamp size (event.DaxPut by seen from to bytes) o is = absurd (false≢true is)
 quiet-stamp size (event.DaxZero by seen from to) o is = absurd (false≢true is)
 quiet-stamp size e o is = refl
+
+-- nor does an act that made such an entry leave one elsewhere
+pub quiet-act : (m : MountView) (file : FileId) (stripe : ℕ) (others : List Entry) (own : Entry) → IsQuiet own → IsPlaced m file (Turn stripe others own)
+quiet-act m file stripe others own is = subst (All (λ x. stripe ≡ stripe_at m file x.0)) (sym (quiet-stamp m.geometry.block_size own.event own.outcome is)) (All-nil (λ (x : ℕ × Stamp). stripe ≡ stripe_at m file x.0))
 
 quiet-given : (opening : RangeView) (history : List Entry) (e : Event) (o : Outcome) → IsTrue (is_quiet e) → bytes_given opening history e o ≡ []
 quiet-given opening history (event.Fetch by from to) o is = absurd (false≢true is)
@@ -216,3 +225,19 @@ quiet-bytes m p before (Leave file c was now ∷ acts) quiet = quiet-bytes m p (
 quiet-bytes m p before (Run bios ∷ acts) quiet = quiet-bytes m p (before ++ Run bios ∷ []) acts quiet
 quiet-bytes m p before (Note begun ∷ acts) quiet = quiet-bytes m p (before ++ Note begun ∷ []) acts quiet
 quiet-bytes m p before (Number call ∷ acts) quiet = quiet-bytes m p (before ++ Number call ∷ []) acts quiet
+
+-- acts that made only such entries left no stamps at other stripes than those of their blocks
+pub quiet-placed : (m : MountView) (file : FileId) (acts : List Act) → All IsQuiet (own_entries acts) → All (IsPlaced m file) acts
+quiet-placed m file [] quiet = All-nil (IsPlaced m file)
+quiet-placed m file (Turn stripe others own ∷ acts) quiet =
+    All-cons (IsPlaced m file) (Turn stripe others own) acts (quiet-act m file stripe others own (All-head IsQuiet own (own_entries acts) quiet)) (quiet-placed m file acts (All-tail IsQuiet own (own_entries acts) quiet))
+quiet-placed m file (SizeTurn cell others own ∷ acts) quiet = All-cons (IsPlaced m file) (SizeTurn cell others own) acts tt (quiet-placed m file acts quiet)
+quiet-placed m file (Busy stripe word ∷ acts) quiet = All-cons (IsPlaced m file) (Busy stripe word) acts tt (quiet-placed m file acts quiet)
+quiet-placed m file (Open stripe ∷ acts) quiet = All-cons (IsPlaced m file) (Open stripe) acts tt (quiet-placed m file acts quiet)
+quiet-placed m file (Close stripe ∷ acts) quiet = All-cons (IsPlaced m file) (Close stripe) acts tt (quiet-placed m file acts quiet)
+quiet-placed m file (Take at c before after ∷ acts) quiet = All-cons (IsPlaced m file) (Take at c before after) acts tt (quiet-placed m file acts quiet)
+quiet-placed m file (Refused at c before after ∷ acts) quiet = All-cons (IsPlaced m file) (Refused at c before after) acts tt (quiet-placed m file acts quiet)
+quiet-placed m file (Leave at c before after ∷ acts) quiet = All-cons (IsPlaced m file) (Leave at c before after) acts tt (quiet-placed m file acts quiet)
+quiet-placed m file (Run bios ∷ acts) quiet = All-cons (IsPlaced m file) (Run bios) acts tt (quiet-placed m file acts quiet)
+quiet-placed m file (Note begun ∷ acts) quiet = All-cons (IsPlaced m file) (Note begun) acts tt (quiet-placed m file acts quiet)
+quiet-placed m file (Number call ∷ acts) quiet = All-cons (IsPlaced m file) (Number call) acts tt (quiet-placed m file acts quiet)

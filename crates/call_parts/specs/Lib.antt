@@ -1,7 +1,9 @@
 pub mod Causes
 pub mod Fills
+pub mod LeftPromises
 pub mod Maps
 pub mod Parts
+pub mod Promises
 pub mod Reads
 pub mod Replies
 pub mod Steps

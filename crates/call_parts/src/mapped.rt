@@ -5,7 +5,7 @@ ghost use Rattle.iomap_core.specs.Mappings.{IsBegun, IsSameMapping};
 ghost use Rattle.mount_parts.specs.MountView.{HasFile};
 ghost use Rattle.mini_fs.specs.Mappings.{Allows, IsOpen, file_end, no_flags, write_flags, zero_flags};
 ghost use Rattle.mini_fs.specs.PassView.{IsPassOf};
-ghost use Rattle.call_parts.specs.Maps.{EndsMapping, Maps, MapsNone, mapping_fault};
+ghost use Rattle.call_parts.specs.Maps.{EndsMapping, GivesBack, Maps, MapsNone, mapping_fault};
 
 use iob_base::{Fault, FileId};
 use iomap_core::{BeginFault, Flags, Iomap, IomapIter};
@@ -63,6 +63,7 @@ pub fn finish_mapping<R: Wait>(
     requires file { iomap.file ≡ iter.old.file }
     ensures state { iter.new ≡ finished iter.old }
     ensures ended { EndsMapping mount.now iter.old.file iomap.flags.new pass.old pass.new }
+    ensures back { GivesBack mount.now iter.old.file iomap iter.old.done pass.old pass.new }
 {
     iter.finish(rt, mount, pass, iomap);
 }

@@ -20,8 +20,8 @@ pub fn steps_add_up()
     ensures none { (m : MountView) (file : FileId) (may : Event → Bool) (lane : LaneView) (p : PassView) → IsPassOf m p → Steps m file may lane lane p p [] }
     ensures both { (m : MountView) (file : FileId) (may : Event → Bool) (a b c : LaneView) (p q r : PassView) (acts more : List Act) → Steps m file may a b p q acts → Steps m file may b c q r more → Steps m file may a c p r (acts ++ more) }
     ensures wider { (m : MountView) (file : FileId) (may might : Event → Bool) (a b : LaneView) (p q : PassView) (acts : List Act) → ((e : Event) → IsTrue (may e) → IsTrue (might e)) → Steps m file may a b p q acts → Steps m file might a b p q acts }
-    ensures first { (entries more : List Entry) (fault : Fault) → IsCaused entries fault → IsCaused (entries ++ more) fault }
-    ensures later { (entries more : List Entry) (fault : Fault) → IsCaused more fault → IsCaused (entries ++ more) fault }
+    ensures first { (m : MountView) (entries more : List Entry) (fault : Fault) → IsCaused m entries fault → IsCaused m (entries ++ more) fault }
+    ensures later { (m : MountView) (entries more : List Entry) (fault : Fault) → IsCaused m more fault → IsCaused m (entries ++ more) fault }
     ensures stamps { (size : ℕ) (entries : List Entry) → All IsQuiet entries → stamps_in size entries ≡ [] }
     ensures bytes { (m : MountView) (p : PassView) (before acts : List Act) → All IsQuiet (own_entries acts) → bytes_read m p before acts ≡ [] }
 {}

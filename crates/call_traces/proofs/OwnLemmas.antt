@@ -16,9 +16,8 @@ use Rattle.mount_parts.specs.declared.file.FilePlace.{FilePlace}
 use Rattle.mini_fs.specs.Acts.{Act, made_in, own_entries, seen_in}
 use Rattle.mini_fs.specs.Acts.Act.{Turn, SizeTurn, Busy, Open, Close, Take, Refused, Leave, Run, Note, Number}
 use Rattle.mini_fs.specs.CallActs.{IsActAt}
-use Rattle.call_traces.specs.Journals.{stamps_left}
-use Rattle.call_traces.specs.Orders.{times_stamped}
-use Rattle.call_traces.specs.Traces.{IsPlaced}
+use Rattle.call_parts.specs.Steps.{IsPlaced}
+use Rattle.call_traces.specs.Journals.{weight_left}
 
 module _ (f : Entry → ℕ) (k : ℕ) where
   -- what was made is among what was seen
@@ -48,18 +47,18 @@ none-here m file stripe b (x ∷ log) apart all =
     let other : (x.0 == b) ≡ false = ne_eqb x.0 b (λ e. apart (here ∙ ap (stripe_at m file) e)) in
     ap (λ t. cons_option (if t then Some x.1 else None) (stamps_at b log)) other ∙ none-here m file stripe b log apart (All-tail (λ (y : ℕ × Stamp). stripe ≡ stripe_at m file y.0) x log all)
 
-module _ (m : MountView) (file : FileId) (b n : ℕ) where
+module _ (m : MountView) (file : FileId) (b : ℕ) (f : Stamp → ℕ) where
   -- all stamps that a call left on a block of its file were left at the block's stripe
-  pub made-placed : (acts : List Act) → All (IsPlaced m file) acts → total (stamps_left m.geometry.block_size b n) (made_in (stripe_at m file b) acts) ≡ total (stamps_left m.geometry.block_size b n) (own_entries acts)
+  pub made-placed : (acts : List Act) → All (IsPlaced m file) acts → total (weight_left m.geometry.block_size b f) (made_in (stripe_at m file b) acts) ≡ total (weight_left m.geometry.block_size b f) (own_entries acts)
   made-placed [] placed = refl
   made-placed (Turn stripe others own ∷ acts) placed = elim (cases_eq stripe (stripe_at m file b)) [
     | inl e ↦
-        ap (λ t. total (stamps_left m.geometry.block_size b n) ((if t then own ∷ [] else []) ++ made_in (stripe_at m file b) acts)) (eq-eqb stripe (stripe_at m file b) e)
-        ∙ ap (λ k. stamps_left m.geometry.block_size b n own + k) (made-placed acts (All-tail (IsPlaced m file) (Turn stripe others own) acts placed))
+        ap (λ t. total (weight_left m.geometry.block_size b f) ((if t then own ∷ [] else []) ++ made_in (stripe_at m file b) acts)) (eq-eqb stripe (stripe_at m file b) e)
+        ∙ ap (λ k. weight_left m.geometry.block_size b f own + k) (made-placed acts (All-tail (IsPlaced m file) (Turn stripe others own) acts placed))
     | inr apart ↦
-        let none : stamps_left m.geometry.block_size b n own ≡ 0 = ap (times_stamped n) (none-here m file stripe b (stamps_of m.geometry.block_size own) apart (All-head (IsPlaced m file) (Turn stripe others own) acts placed)) in
-        let away : total (stamps_left m.geometry.block_size b n) (made_in (stripe_at m file b) (Turn stripe others own ∷ acts)) ≡ total (stamps_left m.geometry.block_size b n) (made_in (stripe_at m file b) acts) =
-        ap (λ t. total (stamps_left m.geometry.block_size b n) ((if t then own ∷ [] else []) ++ made_in (stripe_at m file b) acts)) (ne_eqb stripe (stripe_at m file b) apart) in
+        let none : weight_left m.geometry.block_size b f own ≡ 0 = ap (total f) (none-here m file stripe b (stamps_of m.geometry.block_size own) apart (All-head (IsPlaced m file) (Turn stripe others own) acts placed)) in
+        let away : total (weight_left m.geometry.block_size b f) (made_in (stripe_at m file b) (Turn stripe others own ∷ acts)) ≡ total (weight_left m.geometry.block_size b f) (made_in (stripe_at m file b) acts) =
+        ap (λ t. total (weight_left m.geometry.block_size b f) ((if t then own ∷ [] else []) ++ made_in (stripe_at m file b) acts)) (ne_eqb stripe (stripe_at m file b) apart) in
         omega (arith, away, none, made-placed acts (All-tail (IsPlaced m file) (Turn stripe others own) acts placed))
   ]
   made-placed (SizeTurn cell others own ∷ acts) placed = made-placed acts (All-tail (IsPlaced m file) _ acts placed)

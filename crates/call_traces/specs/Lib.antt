@@ -1,7 +1,17 @@
+pub mod BlockCalls
+pub mod BlockEnds
+pub mod BlockSpace
+pub mod BlockWrites
+pub mod Changes
 pub mod Dids
 pub mod Journals
+pub mod LeftContents
 pub mod Orders
+pub mod RunBlocks
 pub mod Runs
+pub mod ScriptTraces
 pub mod SeatTraces
+pub mod ToldCalls
 pub mod TracedCalls
 pub mod Traces
+pub mod TriedBlocks

@@ -3,6 +3,7 @@ use Rattle.std.specs.Prelude.{◌≡◌, ℕ, ◌<◌, List, Some, map, slice_ge
 use Rattle.iob_base.specs.DeviceBlock.{DeviceBlock}
 use Rattle.iob_base.specs.Layout.{Layout}
 use Rattle.iob_base.specs.declared.stamp.FileId.{FileId}
+use Rattle.iob_base.specs.declared.stamp.Stamp.{Stamp}
 use Rattle.io_model.specs.declared.file.BlockEnd.{BlockEnd}
 use Rattle.io_model.specs.declared.file.FileEnd.{FileEnd}
 use Rattle.io_model.specs.declared.file.FileSpec.{FileSpec}
@@ -14,7 +15,7 @@ use Rattle.mount_parts.specs.declared.file.FilePlace.{FilePlace}
 use Rattle.mini_fs.specs.PassView.{PassView}
 use Rattle.mini_fs.specs.Starts.{Started}
 use Rattle.mini_fs.specs.Wholes.{seat_of_size}
-use Rattle.call_traces.specs.Journals.{answers}
+use Rattle.call_traces.specs.Journals.{answer_weight, answers}
 use Rattle.call_traces.specs.Orders.{times_stamped}
 use Rattle.call_traces.specs.SeatTraces.{all_calls}
 use Rattle.call_traces.specs.Traces.{Phases, Traced}
@@ -34,7 +35,13 @@ pub record IsRun (geometry : Layout) (cookie : ℕ) (sectors : List DeviceBlock)
 abbrev pub file_in : ℕ → FileId
 file_in k = record { 0 = k }
 
--- At the end of a run the journal of each block has as many stamps of a number as calls of that number answered the block
+-- At the end of a run the journal of each block weighs what the stamps of the calls weigh that answered the block, however stamps are weighed
+abbrev pub RunsWeighCalls : Type 0
+RunsWeighCalls = (geometry : Layout) (cookie : ℕ) (sectors : List DeviceBlock) (files : List FileSpec) (phases : List (List (List Traced))) (u : Unmounted) (run : IsRun geometry cookie sectors files phases u)
+    (k b : ℕ) (file : FilePlace) (end : FileEnd) (block : BlockEnd) → slice_get run.mount.files k ≡ Some file → slice_get u.files k ≡ Some end → slice_get end.blocks b ≡ Some block
+    → (f : Stamp → ℕ) → total f block.journal ≡ total (answer_weight run.mount.geometry.block_size (file_in k) b f) (all_calls phases)
+
+-- So it has as many stamps of a number as calls of that number answered the block
 abbrev pub RunsHoldCalls : Type 0
 RunsHoldCalls = (geometry : Layout) (cookie : ℕ) (sectors : List DeviceBlock) (files : List FileSpec) (phases : List (List (List Traced))) (u : Unmounted) (run : IsRun geometry cookie sectors files phases u)
     (k b : ℕ) (file : FilePlace) (end : FileEnd) (block : BlockEnd) → slice_get run.mount.files k ≡ Some file → slice_get u.files k ≡ Some end → slice_get end.blocks b ≡ Some block

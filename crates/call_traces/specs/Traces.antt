@@ -2,16 +2,16 @@
 use Rattle.std.specs.Prelude.{◌≡◌, ℕ, List, [], ◌∷◌, All}
 use Rattle.iob_base.specs.declared.stamp.FileId.{FileId}
 use Rattle.io_model.specs.Parts.{Span}
-use Rattle.range_core.specs.EntryStamps.{stamps_in, stamps_of}
+use Rattle.range_core.specs.EntryStamps.{stamps_in}
 use Rattle.range_core.specs.Stamps.{done_by}
-use Rattle.mount_parts.specs.MountView.{HasFile, MountView, stripe_at}
+use Rattle.mount_parts.specs.MountView.{HasFile, MountView}
 use Rattle.mini_fs.specs.Acts.{Act, Acted, own_entries}
-use Rattle.mini_fs.specs.Acts.Act.{Turn}
 use Rattle.mini_fs.specs.CallActs.{IsActAt, tag_of}
 use Rattle.mini_fs.specs.Joins.{JoinedHistories, joined_pass}
 use Rattle.mini_fs.specs.PassView.{PassView}
 use Rattle.mini_fs.specs.Splits.{SplitOff}
 use Rattle.call_parts.specs.Parts.{stamps_over}
+use Rattle.call_parts.specs.Steps.{IsPlaced}
 
 -- a call: its number, its file, the bytes that it answered, the pass before it, what the pass did, and the pass after it
 pub record Traced : Type 0 where
@@ -21,11 +21,6 @@ pub record Traced : Type 0 where
   pub before : PassView
   pub acts : List Act
   pub after : PassView
-
--- the stamps that a turn left are of blocks of its stripe
-abbrev pub IsPlaced : MountView → FileId → Act → Type 0
-IsPlaced m file (Turn stripe others own) = All (λ x. stripe ≡ stripe_at m file x.0) (stamps_of m.geometry.block_size own)
-IsPlaced m file _ = Unit {0}
 
 -- The acts of a call were at its file, under the number of its pass, and stamped each block that it answered once, with the number of the call, and no other
 pub record IsTraced (m : MountView) (c : Traced) : Type 0 where

@@ -7,7 +7,7 @@ ghost use Rattle.mount_parts.specs.MountView.{MountView};
 ghost use Rattle.mini_fs.specs.PassView.{PassView};
 ghost use Rattle.call_traces.specs.TracedCalls.{AllocIsTraced, PunchIsTraced, ReadIsTraced, TruncIsTraced, WriteIsTraced, ZeroIsTraced};
 
-/// What a call tells of itself makes it one of a trace, where its stamps stand at the stripes of their blocks.
+/// What a call tells of itself makes it one of a trace.
 pub fn calls_are_traced()
     ensures read { (m : MountView) (file : FileId) (call off : ℕ) (a b : LaneView) (p q : PassView) (answer : Answer) → ReadIsTraced m file call off a b p q answer }
     ensures write { (m : MountView) (file : FileId) (call off : ℕ) (a b : LaneView) (p q : PassView) (answer : Answer) → WriteIsTraced m file call off a b p q answer }

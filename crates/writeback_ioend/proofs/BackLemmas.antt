@@ -1,6 +1,8 @@
 -- What went with bios comes back, and their tickets are closed.
-use Rattle.std.proofs.Common.{◌≡◌, ℕ, zero, suc, ◌+◌, ◌≤◌, inl, inr, Bool, true, false, List, [], ◌∷◌, ◌++◌, Some, None, Option, length, if◌then◌else◌, refl, sym, ap, ◌∙◌, subst, arith, append_assoc, append-nil, length-append}
-use Rattle.std.specs.Prelude.{◌⊎◌, ◌==◌}
+use Rattle.std.proofs.Common.{◌≡◌, ℕ, zero, suc, ◌+◌, ◌/◌, ◌≤◌, inl, inr, Bool, true, false, List, [], ◌∷◌, ◌++◌, Some, None, Option, length, if◌then◌else◌, refl, sym, ap, ◌∙◌, subst, arith, append_assoc, append-nil, length-append}
+use Rattle.std.specs.Prelude.{◌⊎◌, ◌==◌, All}
+use Rattle.std.proofs.lemmas.Bool.{eq-eqb}
+use Rattle.std.proofs.lemmas.List.Elements.{All-cons, All-nil}
 use mathlib.Core.Option.{some, some-injective, some-ne-none}
 use lib.ListN.{get_elem?}
 use Rattle.iob_base.specs.declared.stamp.FileId.{FileId}
@@ -24,8 +26,8 @@ use Rattle.range_core.specs.declared.lending.Lent.{Lent}
 use Rattle.range_core.specs.declared.loan_answer.Written.{Written}
 use Rattle.range_core.proofs.TransferLemmas.{length-after}
 use Rattle.io_model.specs.declared.file.Kind.{Kind}
-use Rattle.mount_parts.specs.MountView.{MountView}
-use Rattle.mini_fs.specs.Acts.{Acts, own_entries}
+use Rattle.mount_parts.specs.MountView.{MountView, file_at, stripe_at}
+use Rattle.mini_fs.specs.Acts.{Acts, made_in, own_entries}
 use Rattle.mini_fs.specs.Acts.Act.{Turn, Close}
 use Rattle.mini_fs.specs.CallActs.{IsStripeOf}
 use Rattle.mini_fs.specs.Loans.{EndsWriteback}
@@ -38,13 +40,14 @@ use Rattle.mini_fs.proofs.ActLemmas.{closed-act, turned-act}
 use Rattle.mini_fs.proofs.CallLemmas.{closed-append, loans-append, opened-append, own_entries-append}
 use Rattle.mini_fs.proofs.Loaned.{run-ticket}
 use Rattle.call_parts.specs.Causes.{HasOne}
-use Rattle.call_parts.specs.Steps.{dones_in}
+use Rattle.call_parts.specs.Steps.{CameOfRise, dones_in}
 use Rattle.call_parts.proofs.StepLemmas.{bios-append, dones-append, one-left, one-right}
-use Rattle.writeback_ioend.specs.Folios.{AreLent, CameBack, Carries, HaveComeBack, HaveTickets, Returns, carried_by, failed_now, tickets_at}
+use Rattle.writeback_ioend.specs.Folios.{AreLent, CameBack, Carries, HaveComeBack, HaveTickets, IsLent, Returns, carried_by, failed_now, tickets_at}
 use Rattle.writeback_ioend.specs.Walks.{asks_end}
 use Rattle.writeback_ioend.specs.Writebacks.{AsksAscend, TookBack, all_written, first_failed, or_else}
 use Rattle.writeback_ioend.proofs.AskLemmas.{asks-append}
 use Rattle.writeback_ioend.proofs.Moves.{moves-close, moves-none, moves-then, moves-turn}
+use Rattle.writeback_ioend.proofs.SeenLemmas.{made_in-append}
 use Rattle.writeback_ioend.proofs.WalkLemmas.{ascending-append, ends-append, first-append, turns-append, written-append}
 
 or-none : (o : Option Done) → or_else o None ≡ o
@@ -72,6 +75,10 @@ few-written back done = at done.failed
     at : (t : Bool) → (if t then 0 else length back.parts) ≤ length back.parts
     at true = omega arith
     at false = omega arith
+
+-- a bio that was run has its ticket, its block and as many parts
+run-long : (b r : Bio TicketView) (d : Done) → IsRun b r d → length r.parts ≡ length b.parts
+run-long b r d run = ap length run.parts ∙ length-after b.op d.landed b.parts
 
 module _ (m : MountView) (file : FileId) where
   -- nothing is taken back, and more behind others
@@ -124,18 +131,39 @@ module _ (m : MountView) (file : FileId) where
         written = ap (λ x. x + k) one.written ∙ ap (λ x. all_written (own_entries one.acts) + x) two.written ∙ sym (ap all_written entries ∙ written-append (own_entries one.acts) (own_entries two.acts));
         few = omega (arith, few, few', parts);
         failed_is = ap (λ o. or_else o fails) one.failed_is ∙ ap (or_else (first_failed (own_entries one.acts))) two.failed_is ∙ sym (ap first_failed entries ∙ first-append (own_entries one.acts) (own_entries two.acts));
-        back = λ b has. subst (HasOne (TookBack b)) (sym entries) (both b (one-of-two (Carries b) bios later has));
+        back = λ b has. subst (HasOne (TookBack b)) (sym (made_in-append (stripe_at m file b) one.acts two.acts)) (both b (one-of-two (Carries b) bios later has));
       }
     where
-      both : (b : ℕ) → HasOne (Carries b) bios ⊎ HasOne (Carries b) later → HasOne (TookBack b) (own_entries one.acts ++ own_entries two.acts)
-      both b (inl has) = one-left (TookBack b) (own_entries one.acts) (own_entries two.acts) (one.back b has)
-      both b (inr has) = one-right (TookBack b) (own_entries one.acts) (own_entries two.acts) (two.back b has)
+      both : (b : ℕ) → HasOne (Carries b) bios ⊎ HasOne (Carries b) later → HasOne (TookBack b) (made_in (stripe_at m file b) one.acts ++ made_in (stripe_at m file b) two.acts)
+      both b (inl has) = one-left (TookBack b) (made_in (stripe_at m file b) one.acts) (made_in (stripe_at m file b) two.acts) (one.back b has)
+      both b (inr has) = one-right (TookBack b) (made_in (stripe_at m file b) one.acts) (made_in (stripe_at m file b) two.acts) (two.back b has)
+
+  -- the blocks that a loan goes with are of its ticket's stripe
+  lent-here : (number x : ℕ) (b : Bio TicketView) → IsLent m file number b → Carries x b → b.ticket.stripe ≡ stripe_at m file x
+  lent-here number x b lent mine =
+      let folds = lent.folds in
+      let low = mine.0 in
+      let high = mine.1 in
+      let same : b.block / 64 ≡ x / 64 = omega (arith, folds, low, high) in
+      lent.loan.loan.at ∙ ap (λ k. (file_at m file).stripe + k) same
+
+  came-here : (number x : ℕ) (r : Bio TicketView) (done : Done) → CameBack m file number r done → Carries x r → r.ticket.stripe ≡ stripe_at m file x
+  came-here number x r done came mine =
+      let block : r.block ≡ came.sent.block = ap (λ (v : Bio TicketView). v.block) came.run.bio in
+      let long = run-long came.sent r done came.run in
+      let low = mine.0 in
+      let high = mine.1 in
+      ap (λ (t : TicketView). t.stripe) (run-ticket m file number came.sent r done came.run) ∙ lent-here number x came.sent came.lent (omega (arith, low, block), omega (arith, high, block, long))
+
+  -- one entry is one of the acts at its stripe
+  one-made : (stripe x : ℕ) (others : List Entry) (own : Entry) → stripe ≡ stripe_at m file x → TookBack x own → HasOne (TookBack x) (made_in (stripe_at m file x) (Turn stripe others own ∷ Close stripe ∷ []))
+  one-made stripe x others own same back = subst (λ t. HasOne (TookBack x) ((if t then own ∷ [] else []) ++ [])) (sym (eq-eqb stripe (stripe_at m file x) same)) (0, own, refl, back)
 
   -- what went with one bio was taken back, and its ticket was closed
-  returned-so : (p p1 q : PassView) (others : List Entry) (number : ℕ) (kind : Kind) (b : Bio TicketView) (done : Done) (n : ℕ) → IsStripeOf m file b.ticket.stripe
+  returned-so : (p p1 q : PassView) (others : List Entry) (number : ℕ) (kind : Kind) (b : Bio TicketView) (done : Done) (n : ℕ) → IsStripeOf m file b.ticket.stripe → ((x : ℕ) → Carries x b → b.ticket.stripe ≡ stripe_at m file x)
       → Acts (Turn b.ticket.stripe others (entry_by p.caller (WrittenBack number b.block kind (length b.parts) done) (Counted n))) p p1 → Acts (Close b.ticket.stripe) p1 q → n ≤ length b.parts
       → Returns m file p q (b ∷ []) (done ∷ []) n (failed_now done)
-  returned-so p p1 q others number kind b done n here did shut few =
+  returned-so p p1 q others number kind b done n here home did shut few =
       let s = b.ticket.stripe in
       let own = entry_by p.caller (WrittenBack number b.block kind (length b.parts) done) (Counted n) in
       record {
@@ -153,7 +181,7 @@ module _ (m : MountView) (file : FileId) where
         written = omega arith;
         few = omega (arith, few);
         failed_is = sym (or-none (failed_now done));
-        back = λ x one. (0, own, refl, only-one (Carries x) b one);
+        back = λ x one. (let mine : Carries x b = only-one (Carries x) b one in one-made s x others own (home x mine) mine);
       }
 
   pub returned : (number : ℕ) (r : Bio TicketView) (done : Done) (t : TicketView) (answer : Written) (p p1 q : PassView) (held kept : Option Held) (c d : ClaimsView) → CameBack m file number r done
@@ -170,7 +198,7 @@ module _ (m : MountView) (file : FileId) where
       let few = few-written (lent_of number r.block r.parts) done in
       let count : answer.blocks ≡ written_count (lent_of number r.block r.parts) done = did.count ∙ ap (λ l. written_count l done) back in
       let here : IsStripeOf m file r.ticket.stripe = subst (λ (x : TicketView). IsStripeOf m file x.stripe) (sym (run-ticket m file number came.sent r done came.run)) came.lent.here in
-      returned-so p p1 q turn.turned.others number kind r done answer.blocks here
+      returned-so p p1 q turn.turned.others number kind r done answer.blocks here (λ x mine. came-here number x r done came mine)
       (subst (λ e. Acts (Turn r.ticket.stripe turn.turned.others e) p p1) own (turned-act turn))
       (subst (λ k. Acts (Close k) p1 q) same (closed-act is closed)) (omega (arith, count, few))
 
@@ -195,10 +223,6 @@ module _ (m : MountView) (file : FileId) where
       subst (λ (y : Bio TicketView). (y.slot ≡ slot + 0) × CanTransfer y.parts) e (let s = lent.1 in omega (arith, s), lent.0.loan.loan.ready)
   can-send slot (n ∷ numbers) (x ∷ bios) lent (suc i) b at = let h = can-send (suc slot) numbers bios lent.2 i b at in let s = h.0 in (omega (arith, s), h.1)
 
--- a bio that was run has its ticket, its block and as many parts
-run-long : (b r : Bio TicketView) (d : Done) → IsRun b r d → length r.parts ≡ length b.parts
-run-long b r d run = ap length run.parts ∙ length-after b.op d.landed b.parts
-
 pub run-tickets : (p : PassView) (bios back : List (Bio TicketView)) (dones : List Done) → AreRun bios back dones → HaveTickets p bios → HaveTickets p back
 run-tickets p [] [] [] run have = tt
 run-tickets p [] [] (d ∷ dones) run have = absurd run
@@ -222,6 +246,23 @@ run-many [] (r ∷ back) dones run = absurd run
 run-many (b ∷ bios) [] dones run = absurd run
 run-many (b ∷ bios) (r ∷ back) [] run = absurd run
 run-many (b ∷ bios) (r ∷ back) (d ∷ dones) run = ap suc (run-many bios back dones run.1)
+
+-- a transfer of theirs failed only where the count of its lane rose
+pub run-rose : (bios back : List (Bio TicketView)) (dones : List Done) → AreRun bios back dones → All CameOfRise dones
+run-rose [] [] [] run = All-nil CameOfRise
+run-rose [] [] (d ∷ dones) run = absurd run
+run-rose [] (r ∷ back) dones run = absurd run
+run-rose (b ∷ bios) [] dones run = absurd run
+run-rose (b ∷ bios) (r ∷ back) [] run = absurd run
+run-rose (b ∷ bios) (r ∷ back) (d ∷ dones) run = All-cons CameOfRise d dones run.0.rose (run-rose bios back dones run.1)
+
+pub run-done : (bios back : List (Bio TicketView)) (dones : List Done) → AreRun bios back dones → length dones ≡ length bios
+run-done [] [] [] run = refl
+run-done [] [] (d ∷ dones) run = absurd run
+run-done [] (r ∷ back) dones run = absurd run
+run-done (b ∷ bios) [] dones run = absurd run
+run-done (b ∷ bios) (r ∷ back) [] run = absurd run
+run-done (b ∷ bios) (r ∷ back) (d ∷ dones) run = ap suc (run-done bios back dones run.1)
 
 pub run-at : (k : ℕ) (bios back : List (Bio TicketView)) (dones : List Done) → AreRun bios back dones → tickets_at k back ≡ tickets_at k bios
 run-at k [] [] [] run = refl

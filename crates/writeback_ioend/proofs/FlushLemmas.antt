@@ -56,9 +56,9 @@ first-done [] done is = absurd (none-some done is)
 first-done (e ∷ entries) done is = first-at e entries done (failed_of e.event e.outcome) refl (first-done entries done) is
 
 -- the fault of a flush rests on its entries
-flush-caused : (entries : List Entry) (failed : Option Done) (stopped : Option Fault) → failed ≡ first_failed entries → IfSome stopped (IsCaused entries) → IfSome (flush_fault failed stopped) (IsCaused entries)
-flush-caused entries None stopped is cause = cause
-flush-caused entries (Some done) stopped is cause = first-done entries done (sym is)
+flush-caused : (m : MountView) (entries : List Entry) (failed : Option Done) (stopped : Option Fault) → failed ≡ first_failed entries → IfSome stopped (IsCaused m entries) → IfSome (flush_fault failed stopped) (IsCaused m entries)
+flush-caused m entries None stopped is cause = cause
+flush-caused m entries (Some done) stopped is cause = first-done entries done (sym is)
 
 module _ (m : MountView) (file : FileId) (from n : ℕ) (a b : LaneView) (p q : PassView) (written : Written) (run : WritesRun m file true from n a b p q written) where
   pub run-flushes : (flushed : Flushed) → flushed.fault ≡ flush_fault written.failed written.fault → flushed.bios ≡ written.bios → Flushes m file from n a b p q flushed
@@ -72,10 +72,10 @@ module _ (m : MountView) (file : FileId) (from n : ℕ) (a b : LaneView) (p q : 
       record {
         acts = w.acts;
         stopped = written.fault;
-        out = out-plain m file true from (end_in m file from n) a b p q w.acts written.fault w.steps w.ascending w.sought (omega (arith, lent, few)) (omega (arith, lent, wrote, enough)) w.met w.stops w.cause;
+        out = out-plain m file true from (end_in m file from n) a b p q w.acts written.fault w.steps w.ascending w.sought (omega (arith, lent, few)) (omega (arith, lent, wrote, enough)) w.returned w.met w.stops w.cause;
         none = run.none;
         fault = is ∙ ap (λ o. flush_fault o written.fault) w.failed;
-        cause = subst (λ f. IfSome f (IsCaused (own_entries w.acts))) (sym is) (flush-caused (own_entries w.acts) written.failed written.fault w.failed w.cause);
+        cause = subst (λ f. IfSome f (IsCaused m (own_entries w.acts))) (sym is) (flush-caused m (own_entries w.acts) written.failed written.fault w.failed w.cause);
         bios = sent ∙ w.bios;
         turns = omega (arith, sent, turns);
       }

@@ -9,7 +9,7 @@ use Rattle.bio_pages.specs.declared.bio.Bio.{Bio}
 use Rattle.turn_cell.specs.Views.{SeatView}
 use Rattle.range_core.specs.declared.entry.Entry.{Entry}
 use Rattle.mount_parts.specs.MountView.{MountView, stripe_at}
-use Rattle.mini_fs.specs.Acts.{Act, Acted, bios_in, closed_in, opened_in, own_entries}
+use Rattle.mini_fs.specs.Acts.{Act, Acted, bios_in, closed_in, made_in, opened_in, own_entries}
 use Rattle.mini_fs.specs.Acts.Act.{Run}
 use Rattle.mini_fs.specs.CallActs.{loans_in}
 use Rattle.mini_fs.specs.Calls.{HasShares}
@@ -27,14 +27,15 @@ use Rattle.writeback_ioend.specs.Walks.{Moves, Walks, WalksFolio, WalksOn, asks_
 use Rattle.writeback_ioend.specs.Writebacks.{AsksAscend, AsksFrom, IsAway, IsDueState, IsMet, IsSettled, TookBack, WasFound, all_written, first_failed, last_turns, or_else}
 use Rattle.writeback_ioend.specs.declared.walk.Written.{Written}
 use Rattle.writeback_ioend.proofs.AskLemmas.{asks-append}
-use Rattle.writeback_ioend.proofs.BackLemmas.{run-at, run-carried, run-carries, run-many}
+use Rattle.writeback_ioend.proofs.BackLemmas.{run-at, run-carried, run-carries, run-done, run-many}
 use Rattle.writeback_ioend.proofs.LendLemmas.{lends-then}
-use Rattle.writeback_ioend.proofs.Moves.{moves-run, moves-then}
+use Rattle.writeback_ioend.proofs.Moves.{moves-placed, moves-run, moves-then}
+use Rattle.writeback_ioend.proofs.SeenLemmas.{made_in-append}
 use Rattle.writeback_ioend.proofs.WalkLemmas.{ascending-append, ends-append, first-append, found-left, found-right, refused-append, turns-append, walks-then, written-append}
 
-caused-first : (entries more : List Entry) (fault : Option Fault) → IfSome fault (IsCaused entries) → IfSome fault (IsCaused (entries ++ more))
-caused-first entries more None is = tt
-caused-first entries more (Some fault) is = caused-left entries more fault is
+caused-first : (m : MountView) (entries more : List Entry) (fault : Option Fault) → IfSome fault (IsCaused m entries) → IfSome fault (IsCaused m (entries ++ more))
+caused-first m entries more None is = tt
+caused-first m entries more (Some fault) is = caused-left m entries more fault is
 
 none-one : {A : Type 0} (P : A → Type 0) → HasOne P [] → ⊥
 none-one P (i, x, at, is) = cc
@@ -72,6 +73,7 @@ module _ (m : MountView) (file : FileId) (waits : Bool) (slot at next : ℕ) (p 
           sizes = l.moves.sizes;
           last = l.moves.last;
           callers = l.moves.callers;
+          placed = moves-placed m file p q l.acts l.moves;
           run = omega (arith, ran, loans);
           lane = subst (ServedBy lane lane) (sym l.none_back) (served-none lane);
           tickets = keeps;
@@ -85,6 +87,7 @@ module _ (m : MountView) (file : FileId) (waits : Bool) (slot at next : ℕ) (p 
         bios = sym l.loans;
         few_bios = omega arith;
         enough_bios = omega arith;
+        returned = ap length l.none_back ∙ sym l.loans;
         failed = sym l.none_failed;
         met = λ b low high. none-met b (l.met b low high);
         stops = l.stops;
@@ -136,7 +139,7 @@ module _ (m : MountView) (file : FileId) (waits : Bool) (at next : ℕ) (x y : L
 
   all-met : (b : ℕ) → WasFound IsSettled m file b p l.acts ⊎ (HasOne (Carries b) bios ⊎ ((waits ≡ false) × WasFound IsAway m file b p l.acts)) → IsMet waits m file b p (l.acts ++ more)
   all-met b (inl f) = inl (found-left IsSettled m file b p l.acts more f)
-  all-met b (inr (inl one)) = inr (inl (subst (HasOne (TookBack b)) (sym entries) (one-right (TookBack b) (own_entries l.acts) (own_entries last) (s.returns.back b (run-carries b bios s.back s.dones s.run one)))))
+  all-met b (inr (inl one)) = inr (inl (subst (HasOne (TookBack b)) (sym (made_in-append (stripe_at m file b) l.acts more)) (one-right (TookBack b) (made_in (stripe_at m file b) l.acts) (made_in (stripe_at m file b) last) (s.returns.back b (run-carries b bios s.back s.dones s.run one)))))
   all-met b (inr (inr f)) = inr (inr (f.0, found-left IsAway m file b p l.acts more f.1))
 
   pub folio-walk : IsPassOf m r → KeepsTickets p r → (count : ℕ) → count ≡ length bios → Walks m file waits at next x y p r (record { blocks = blocks; bios = count; failed = failed; fault = fault })
@@ -163,6 +166,7 @@ module _ (m : MountView) (file : FileId) (waits : Bool) (at next : ℕ) (x y : L
           sizes = moves.sizes;
           last = moves.last;
           callers = moves.callers;
+          placed = moves-placed m file p r (l.acts ++ more) moves;
           run = all-run;
           lane = subst (ServedBy x y) (sym all-dones) s.lane;
           tickets = keeps;
@@ -176,10 +180,11 @@ module _ (m : MountView) (file : FileId) (waits : Bool) (at next : ℕ) (x y : L
         bios = omega (arith, count-is, loans, lent, none');
         few_bios = omega (arith, count-is, many);
         enough_bios = omega (arith, few, same, short, count-is);
+        returned = (let done = run-done bios s.back s.dones s.run in let e : length (dones_in (own_entries (l.acts ++ more))) ≡ length s.dones = ap length all-dones in omega (arith, done, e, loans, lent, none'));
         failed = s.returns.failed_is ∙ sym (ap first_failed entries ∙ first-append (own_entries l.acts) (own_entries last) ∙ ap (λ o. or_else o (first_failed (own_entries last))) l.none_failed);
         met = λ b low high. all-met b (l.met b low high);
         stops = l.stops;
-        cause = subst (λ z. IfSome fault (IsCaused z)) (sym entries) (caused-first (own_entries l.acts) (own_entries last) fault l.cause);
+        cause = subst (λ z. IfSome fault (IsCaused m z)) (sym entries) (caused-first m (own_entries l.acts) (own_entries last) fault l.cause);
       }
 
 -- a folio that something stopped before a loan

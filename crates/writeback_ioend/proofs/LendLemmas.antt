@@ -42,17 +42,17 @@ stopped-stops refusal.NoMemory = tt
 stopped-stops (refusal.NoSpace wanted found) = tt
 stopped-stops (refusal.Poison done) = tt
 
-pub stopped-caused : (entries : List Entry) (fault : EventFault) → HasOne (WasRefusedFor fault) entries → IfSome (stopped_by fault) (IsCaused entries)
-stopped-caused entries (refusal.Away b ticket) one = tt
-stopped-caused entries (refusal.Settled b) one = tt
-stopped-caused entries (refusal.Unattached b) one = tt
-stopped-caused entries (refusal.Worn cookie) one = one
-stopped-caused entries (refusal.Stale sample now) one = tt
-stopped-caused entries (refusal.Cold b) one = tt
-stopped-caused entries (refusal.Dirty b) one = tt
-stopped-caused entries refusal.NoMemory one = tt
-stopped-caused entries (refusal.NoSpace wanted found) one = tt
-stopped-caused entries (refusal.Poison done) one = tt
+pub stopped-caused : (m : MountView) (entries : List Entry) (fault : EventFault) → HasOne (WasRefusedFor fault) entries → IfSome (stopped_by fault) (IsCaused m entries)
+stopped-caused m entries (refusal.Away b ticket) one = tt
+stopped-caused m entries (refusal.Settled b) one = tt
+stopped-caused m entries (refusal.Unattached b) one = tt
+stopped-caused m entries (refusal.Worn cookie) one = one
+stopped-caused m entries (refusal.Stale sample now) one = tt
+stopped-caused m entries (refusal.Cold b) one = tt
+stopped-caused m entries (refusal.Dirty b) one = tt
+stopped-caused m entries refusal.NoMemory one = tt
+stopped-caused m entries (refusal.NoSpace wanted found) one = tt
+stopped-caused m entries (refusal.Poison done) one = tt
 
 -- bios with loans put one after another
 pub lent-append : (m : MountView) (file : FileId) (slot at : ℕ) (numbers more : List ℕ) (bios later : List (Bio TicketView)) → AreLent m file slot numbers bios → at ≡ slot + length bios → AreLent m file at more later → AreLent m file slot (numbers ++ more) (bios ++ later)
@@ -143,7 +143,7 @@ module _ (m : MountView) (file : FileId) (waits : Bool) (slot : ℕ) where
           | inr above ↦ met-later b (two.met b above to)
         ];
         stops = two.stops;
-        cause = subst (λ l. IfSome fault (IsCaused l)) (sym entries) (caused-later (own_entries one.acts) (own_entries two.acts) fault two.cause);
+        cause = subst (λ l. IfSome fault (IsCaused m l)) (sym entries) (caused-later m (own_entries one.acts) (own_entries two.acts) fault two.cause);
       }
     where
       met-first : (b : ℕ) → WasFound IsSettled m file b p one.acts ⊎ (HasOne (Carries b) bios ⊎ ((waits ≡ false) × WasFound IsAway m file b p one.acts))

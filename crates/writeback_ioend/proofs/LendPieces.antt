@@ -72,7 +72,7 @@ module _ (m : MountView) (file : FileId) (at end : ℕ) (some : at < end) (withi
 
   -- one turn gave them space, or was refused
   attach-so : (waits : Bool) (p q : PassView) (others : List Entry) (outcome : Outcome) (fault : Option Fault) → Acts (Turn (stripe_at m file at) others (entry_by p.caller (Attach at (end - at)) outcome)) p q
-      → loans_in (Turn (stripe_at m file at) others (entry_by p.caller (Attach at (end - at)) outcome) ∷ []) ≡ 0 → IfSome fault StopsWriteback → IfSome fault (IsCaused (entry_by p.caller (Attach at (end - at)) outcome ∷ []))
+      → loans_in (Turn (stripe_at m file at) others (entry_by p.caller (Attach at (end - at)) outcome) ∷ []) ≡ 0 → IfSome fault StopsWriteback → IfSome fault (IsCaused m (entry_by p.caller (Attach at (end - at)) outcome ∷ []))
       → OneTurn m file waits at at p q fault
   attach-so waits p q others outcome fault did loans stops cause = record {
     lends = record {
@@ -110,7 +110,7 @@ module _ (m : MountView) (file : FileId) (at end : ℕ) (some : at < end) (withi
     not-attached fault is =
         let did = subst (λ a. AttachesAt m.pool.opening at (end - at) t.turned.value t.turned.next p.caller a t.turned.entry) is t.turned.done in
         attach-so waits p q t.turned.others (Refused fault) (stopped_by fault) (subst (λ e. Acts (Turn (stripe_at m file at) t.turned.others e) p q) did.err.entry_is (turned-act t)) refl (stopped-stops fault)
-        (stopped-caused (entry_by p.caller (Attach at (end - at)) (Refused fault) ∷ []) fault (0, entry_by p.caller (Attach at (end - at)) (Refused fault), refl, refl))
+        (stopped-caused m (entry_by p.caller (Attach at (end - at)) (Refused fault) ∷ []) fault (0, entry_by p.caller (Attach at (end - at)) (Refused fault), refl, refl))
 
   -- its dirty blocks may be lent for a write on a ticket without a loan
   pub lend-ready : IsLaidOut m → (p q : PassView) (t : TicketView) → Opened p (stripe_at m file at) q t → ReadyAt (λ opening seen claims. MayWrite opening claims at (end - at)) m q t.stripe (lent_claims q t.held)
@@ -231,7 +231,7 @@ module _ (m : MountView) (file : FileId) (at end : ℕ) (some : at < end) (withi
       let acts : Acts (Turn u.stripe turn.turned.others (entry_by p.caller (LendWriteback at (end - at)) (Lending number (length b.parts)))) p1 p2 =
       subst (λ e. Acts (Turn u.stripe turn.turned.others e) p1 p2) own (subst (λ k. Acts (Turn k turn.turned.others turn.turned.entry) p1 p2) (sym same) (turned-act turn)) in
       record {
-        tries = lent-so turn.turned.others number b stripe (ap (λ (x : Bio TicketView). x.slot) bio_is) block loan.ready.some (omega (arith, many, short)) (record { loan = carries; here = subst (IsStripeOf m file) (sym stripe) at-stripe }) acts;
+        tries = lent-so turn.turned.others number b stripe (ap (λ (x : Bio TicketView). x.slot) bio_is) block loan.ready.some (omega (arith, many, short)) (record { loan = carries; here = subst (IsStripeOf m file) (sym stripe) at-stripe; folds = omega (arith, folds, some, block, many, most) }) acts;
         within = omega (arith, many, most, some);
         ticket = subst (IsTicketOf p2) (sym (ap (λ (x : Bio TicketView). x.ticket) bio_is)) ticket;
       }
@@ -254,7 +254,7 @@ module _ (m : MountView) (file : FileId) (at end : ℕ) (some : at < end) (withi
     acts = Open u.stripe ∷ Turn u.stripe turn.turned.others own ∷ Close u.stripe ∷ []
 
     refused-so : (next : ℕ) (fault : Option Fault) → at ≤ next → asked_again waits at refused.fault ≤ next → ((b : ℕ) → at ≤ b → b < next → WasFound IsSettled m file b p acts ⊎ (HasOne (Carries b) [] ⊎ ((waits ≡ false) × WasFound IsAway m file b p acts)))
-        → IfSome fault StopsWriteback → IfSome fault (IsCaused (own ∷ [])) → Tries m file waits slot at next p q [] [] fault
+        → IfSome fault StopsWriteback → IfSome fault (IsCaused m (own ∷ [])) → Tries m file waits slot at next p q [] [] fault
     refused-so next fault forward behind met stops cause = record {
       lends = record {
         acts = acts;
@@ -303,7 +303,7 @@ module _ (m : MountView) (file : FileId) (at end : ℕ) (some : at < end) (withi
 
     ended-so : (fault : EventFault) → refused.fault ≡ fault → asked_again waits at fault ≤ at → Tries m file waits slot at at p q [] [] (stopped_by fault)
     ended-so fault e again = refused-so at (stopped_by fault) (omega arith) (subst (λ x. asked_again waits at x ≤ at) (sym e) again) (λ b low high. absurd (omega (arith, low, high))) (stopped-stops fault)
-        (stopped-caused (own ∷ []) fault (0, own, refl, ap Refused e))
+        (stopped-caused m (own ∷ []) fault (0, own, refl, ap Refused e))
 
     away-so : (x ticket : ℕ) → refused.fault ≡ refusal.Away x ticket → (w : Bool) → waits ≡ w → Came m file waits slot at end p q (if w then Ended None else On (at + 1))
     away-so x ticket e true f = ended-so (refusal.Away x ticket) e (subst (λ w. asked_again w at (refusal.Away x ticket) ≤ at) (sym f) (omega arith))

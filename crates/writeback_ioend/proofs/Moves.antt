@@ -1,9 +1,12 @@
 -- Acts of a walk put one after another, and the acts that it is made of.
 use Rattle.std.proofs.Common.{◌≡◌, ℕ, ◌++◌, List, [], ◌∷◌, refl, sym, ap, ◌∙◌, subst}
 use Rattle.std.specs.Prelude.{All, IsTrue}
-use Rattle.std.proofs.lemmas.List.Elements.{All-append, All-cons, All-nil}
+use Rattle.std.proofs.lemmas.Bool.{false≢true}
+use Rattle.std.proofs.lemmas.List.Elements.{All-append, All-cons, All-nil, All-weaker}
 use Rattle.iob_base.specs.declared.stamp.FileId.{FileId}
 use Rattle.range_core.specs.declared.entry.Entry.{Entry}
+use Rattle.range_core.specs.declared.entry.Event.{Event}
+use Rattle.range_core.specs.declared.entry.Event.TheVariants as event
 use Rattle.mount_parts.specs.MountView.{MountView}
 use Rattle.mini_fs.specs.Acts.{Act, Acts, HasRun, own_entries}
 use Rattle.mini_fs.specs.Acts.Act.{Turn, Open, Close, Run}
@@ -12,6 +15,8 @@ use Rattle.mini_fs.specs.PassView.{PassView}
 use Rattle.mini_fs.proofs.ActLemmas.{acted-then}
 use Rattle.mini_fs.proofs.CallEnds.{acted-caller}
 use Rattle.mini_fs.proofs.CallLemmas.{lock_acts-append, own_entries-append, size_acts-append}
+use Rattle.call_parts.specs.Steps.{IsPlaced, IsQuiet, is_quiet}
+use Rattle.call_parts.proofs.StepLemmas.{quiet-placed}
 use Rattle.writeback_ioend.specs.Walks.{Moves}
 use Rattle.writeback_ioend.specs.Writebacks.{writes_back}
 
@@ -20,6 +25,14 @@ IsOf caller e = e.caller ≡ caller
 
 abbrev IsWriteback : Entry → Type 0
 IsWriteback e = IsTrue (writes_back e.event)
+
+-- none of these events gives bytes or leaves stamps
+pub writes-quiet : (e : Event) → IsTrue (writes_back e) → IsTrue (is_quiet e)
+writes-quiet (event.Sample block most) is = refl
+writes-quiet (event.Attach block blocks) is = refl
+writes-quiet (event.LendWriteback block most) is = refl
+writes-quiet (event.WrittenBack ticket block kind blocks done) is = refl
+writes-quiet e is = absurd (false≢true is)
 
 module _ (m : MountView) (file : FileId) where
   pub moves-none : (p : PassView) → Moves m file p p []
@@ -88,3 +101,7 @@ module _ (m : MountView) (file : FileId) where
     last = ap (λ (v : PassView). v.last) did.pass_is;
     begun = ap (λ (v : PassView). v.begun) did.pass_is;
   }
+
+  -- and none of its acts leaves a stamp at another stripe than its block's
+  pub moves-placed : (p q : PassView) (acts : List Act) → Moves m file p q acts → All (IsPlaced m file) acts
+  moves-placed p q acts moves = quiet-placed m file acts (All-weaker IsWriteback IsQuiet (λ e mine. writes-quiet e.event mine) (own_entries acts) moves.made)

@@ -36,9 +36,9 @@ use Rattle.mini_fs.proofs.CallLemmas.{loans-append, own_entries-append}
 use Rattle.mini_fs.proofs.Ready.{run-lies}
 use Rattle.call_parts.specs.Causes.{IsCaused}
 use Rattle.call_parts.specs.Reads.{seen_at, seen_by}
-use Rattle.call_parts.specs.Steps.{Steps, done_of}
+use Rattle.call_parts.specs.Steps.{Steps, done_of, dones_in, is_quiet}
 use Rattle.call_parts.proofs.MapLemmas.{act-step}
-use Rattle.call_parts.proofs.StepLemmas.{steps-none, steps-then}
+use Rattle.call_parts.proofs.StepLemmas.{quiet-act, steps-none, steps-then}
 use Rattle.writeback_ioend.specs.DropsCache.{blocks_from}
 use Rattle.writeback_ioend.specs.ErrorCounts.{count_of}
 use Rattle.writeback_ioend.specs.Syncs.{AreTold, CountsErrors, LooksOnce, Syncs, ToldErrors, compared, errors_in, found_errors, look_entry, looks_from}
@@ -46,7 +46,7 @@ use Rattle.writeback_ioend.specs.Writebacks.{AsksAscend, StopsWriteback, WritesB
 use Rattle.writeback_ioend.specs.declared.walk.Written.{Written}
 use Rattle.writeback_ioend.proofs.AskLemmas.{AsksNone, asks-append, asks-none}
 use Rattle.writeback_ioend.proofs.SeenLemmas.{seen-after}
-use Rattle.writeback_ioend.proofs.WalkLemmas.{met-left, refused-append, turns-append}
+use Rattle.writeback_ioend.proofs.WalkLemmas.{met-left, refused-append, returned-then, turns-append}
 use Rattle.writeback_ioend.proofs.WriteOuts.{call-leaves, out-numbered, reply-counts}
 
 -- One look at a stripe
@@ -72,7 +72,7 @@ module _ (m : MountView) (file : FileId) (stripe run : ℕ) (p q : PassView) (ru
       record {
         acts = Turn at t.turned.others own ∷ [];
         sample = sample;
-        steps = act-step m file writes_back (stripe * 64) t.turned.others own p q of look-block (turned-act t) (subst (λ e. IsTrue (writes_back e)) (sym event) refl) (ap (λ (e : Entry). e.caller) gave.entry_is) (ap has_lent outcome) (ap (λ e. done_of e own.outcome) event);
+        steps = act-step m file writes_back (stripe * 64) t.turned.others own p q of look-block (turned-act t) (subst (λ e. IsTrue (writes_back e)) (sym event) refl) (ap (λ (e : Entry). e.caller) gave.entry_is) (ap has_lent outcome) (ap (λ e. done_of e own.outcome) event) (quiet-act m file at t.turned.others own (subst (λ e. IsTrue (is_quiet e)) (sym event) refl));
         entries = ap (λ (e : Entry). e ∷ []) gave.entry_is ∙ ap (λ n. entry_by p.caller (Look (stripe * 64) n) (Sampled sample) ∷ []) run_is;
         told = record {
           before = [];
@@ -200,6 +200,10 @@ looks-lend-none : (caller blocks from : ℕ) (samples : List Sample) → total l
 looks-lend-none caller blocks from [] = refl
 looks-lend-none caller blocks from (s ∷ samples) = (let rest = looks-lend-none caller blocks (from + 64) samples in omega (arith, rest))
 
+looks-back-none : (caller blocks from : ℕ) (samples : List Sample) → dones_in (looks_from caller blocks from samples) ≡ []
+looks-back-none caller blocks from [] = refl
+looks-back-none caller blocks from (s ∷ samples) = looks-back-none caller blocks (from + 64) samples
+
 looks-ask-none : (caller blocks from : ℕ) (samples : List Sample) → All AsksNone (looks_from caller blocks from samples)
 looks-ask-none caller blocks from [] = All-nil AsksNone
 looks-ask-none caller blocks from (s ∷ samples) = All-cons AsksNone (look_entry caller blocks from s) (looks_from caller blocks (from + 64) samples) (λ block most e. absurd (cc e)) (looks-ask-none caller blocks (from + 64) samples)
@@ -237,7 +241,7 @@ module _ (m : MountView) (file : FileId) (call all : ℕ) (a b : LaneView) (p st
         record {
           acts = Number call ∷ w.acts;
           stopped = Some fault;
-          out = out-numbered m file true 0 (file_at m file).blocks a b call p r w.acts (Some fault) w.steps w.ascending w.sought (omega (arith, lent, few')) (omega (arith, lent, wrote, enough)) (λ none. absurd (cc)) stops (subst (λ f. IfSome f (IsCaused (own_entries w.acts))) stopped w.cause);
+          out = out-numbered m file true 0 (file_at m file).blocks a b call p r w.acts (Some fault) w.steps w.ascending w.sought (omega (arith, lent, few')) (omega (arith, lent, wrote, enough)) w.returned (λ none. absurd (cc)) stops (subst (λ f. IfSome f (IsCaused m (own_entries w.acts))) stopped w.cause);
           written = Number call ∷ w.acts;
           looks = [];
           acts_are = sym (append-nil (Number call ∷ w.acts));
@@ -294,6 +298,7 @@ module _ (m : MountView) (file : FileId) (call all : ℕ) (a b : LaneView) (p st
               (subst (AsksAscend true 0) (sym entries) (ascend-then p.caller blocks 0 0 (own_entries w.acts) counted.samples w.ascending))
               (asks-append m file (with_call p call) [] w.acts counted.acts w.sought (asks-none m file (with_call p call) w.acts counted.acts (subst (All AsksNone) (sym looked) (looks-ask-none p.caller blocks 0 counted.samples))))
               (omega (arith, lent, few')) (omega (arith, lent, wrote', enough))
+              (returned-then w.acts counted.acts w.returned (ap length (ap dones_in looked ∙ looks-back-none p.caller blocks 0 counted.samples) ∙ sym unlent))
               (λ none i low high. met-left true m file i (with_call p call) w.acts counted.acts (w.met whole i low high))
               tt tt;
           written = Number call ∷ w.acts;

@@ -15,19 +15,20 @@ use Rattle.range_core.specs.declared.entry.Event.TheVariants.{LendWriteback}
 use Rattle.range_core.specs.declared.entry.Outcome.{Outcome}
 use Rattle.range_core.specs.declared.entry.Outcome.TheVariants.{Lending, Refused}
 use Rattle.mount_parts.specs.MountView.{MountView, stripe_at}
-use Rattle.mini_fs.specs.Acts.{Act, Acted, own_entries}
+use Rattle.mini_fs.specs.Acts.{Act, Acted, made_in, own_entries}
 use Rattle.mini_fs.specs.Acts.Act.{Turn}
 use Rattle.mini_fs.specs.CallActs.{loans_in}
 use Rattle.mini_fs.specs.PassView.{IsPassOf, PassView}
 use Rattle.mini_fs.proofs.ActLemmas.{acted-then}
 use Rattle.mini_fs.proofs.CallLemmas.{loans-append, own_entries-append}
 use Rattle.call_parts.specs.Causes.{HasOne, IsCaused}
-use Rattle.call_parts.proofs.StepLemmas.{caused-right, one-left, one-right, steps-none, steps-then}
+use Rattle.call_parts.specs.Steps.{dones_in}
+use Rattle.call_parts.proofs.StepLemmas.{caused-right, dones-append, one-left, one-right, steps-none, steps-then}
 use Rattle.writeback_ioend.specs.Walks.{Walks, WalksOn, asks_end, both_written, nothing_written}
 use Rattle.writeback_ioend.specs.Writebacks.{AsksAscend, IsAway, IsMet, IsSettled, StopsWriteback, TookBack, WasFound, WritesBack, all_written, asked_from, asked_to, failed_of, first_failed, is_refused_loan, last_turns, or_else, refused_loans, turns_in, writes_back, written_by}
 use Rattle.writeback_ioend.specs.declared.walk.Written.{Written}
 use Rattle.writeback_ioend.proofs.AskLemmas.{asks-append}
-use Rattle.writeback_ioend.proofs.SeenLemmas.{seen-after}
+use Rattle.writeback_ioend.proofs.SeenLemmas.{made_in-append, seen-after}
 
 -- from a lower block on what an entry asks for ascends too, and ends no later
 from-lower : (low at : ℕ) (ev : Event) → low ≤ at → at ≤ asked_from at ev → low ≤ asked_from low ev
@@ -117,17 +118,25 @@ module _ (So : BlockState → Type 0) (m : MountView) (file : FileId) (b : ℕ) 
 module _ (waits : Bool) (m : MountView) (file : FileId) (b : ℕ) where
   pub met-left : (p : PassView) (acts more : List Act) → IsMet waits m file b p acts → IsMet waits m file b p (acts ++ more)
   met-left p acts more (inl f) = inl (found-left IsSettled m file b p acts more f)
-  met-left p acts more (inr (inl one)) = inr (inl (subst (HasOne (TookBack b)) (sym (own_entries-append acts more)) (one-left (TookBack b) (own_entries acts) (own_entries more) one)))
+  met-left p acts more (inr (inl one)) = inr (inl (subst (HasOne (TookBack b)) (sym (made_in-append (stripe_at m file b) acts more)) (one-left (TookBack b) (made_in (stripe_at m file b) acts) (made_in (stripe_at m file b) more) one)))
   met-left p acts more (inr (inr f)) = inr (inr (f.0, found-left IsAway m file b p acts more f.1))
 
   pub met-right : (p q : PassView) (acts more : List Act) → IsPassOf m p → Acted acts p q → IsMet waits m file b q more → IsMet waits m file b p (acts ++ more)
   met-right p q acts more of acted (inl f) = inl (found-right IsSettled m file b p q acts more of acted f)
-  met-right p q acts more of acted (inr (inl one)) = inr (inl (subst (HasOne (TookBack b)) (sym (own_entries-append acts more)) (one-right (TookBack b) (own_entries acts) (own_entries more) one)))
+  met-right p q acts more of acted (inr (inl one)) = inr (inl (subst (HasOne (TookBack b)) (sym (made_in-append (stripe_at m file b) acts more)) (one-right (TookBack b) (made_in (stripe_at m file b) acts) (made_in (stripe_at m file b) more) one)))
   met-right p q acts more of acted (inr (inr f)) = inr (inr (f.0, found-right IsAway m file b p q acts more of acted f.1))
 
-pub caused-later : (entries more : List Entry) (fault : Option Fault) → IfSome fault (IsCaused more) → IfSome fault (IsCaused (entries ++ more))
-caused-later entries more None is = tt
-caused-later entries more (Some fault) is = caused-right entries more fault is
+pub caused-later : (m : MountView) (entries more : List Entry) (fault : Option Fault) → IfSome fault (IsCaused m more) → IfSome fault (IsCaused m (entries ++ more))
+caused-later m entries more None is = tt
+caused-later m entries more (Some fault) is = caused-right m entries more fault is
+
+-- where as many came back as were lent in two parts, so many did in both
+pub returned-then : (acts more : List Act) → length (dones_in (own_entries acts)) ≡ loans_in acts → length (dones_in (own_entries more)) ≡ loans_in more → length (dones_in (own_entries (acts ++ more))) ≡ loans_in (acts ++ more)
+returned-then acts more first later =
+    let both : length (dones_in (own_entries (acts ++ more))) ≡ length (dones_in (own_entries acts) ++ dones_in (own_entries more)) = ap length (ap dones_in (own_entries-append acts more) ∙ dones-append (own_entries acts) (own_entries more)) in
+    let parts = length-append (dones_in (own_entries acts)) (dones_in (own_entries more)) in
+    let loans = loans-append acts more in
+    omega (arith, both, parts, loans, first, later)
 
 -- a walk that nothing stopped, and one behind it
 module _ (m : MountView) (file : FileId) (waits : Bool) where
@@ -158,13 +167,14 @@ module _ (m : MountView) (file : FileId) (waits : Bool) where
         bios = bios ∙ ap (λ n. n + later.bios) one.bios ∙ ap (λ n. loans_in one.acts + n) two.bios ∙ sym (loans-append one.acts two.acts);
         few_bios = omega (arith, bios, some, some', low, high);
         enough_bios = omega (arith, blocks, bios, enough, enough');
+        returned = returned-then one.acts two.acts one.returned two.returned;
         failed = failed ∙ ap (λ o. or_else o later.failed) one.failed ∙ ap (or_else (first_failed (own_entries one.acts))) two.failed ∙ sym (ap first_failed entries ∙ first-append (own_entries one.acts) (own_entries two.acts));
         met = λ b from to. elim (cases_lt b mid) [
           | inl below ↦ met-left waits m file b p one.acts two.acts (one.met b from below)
           | inr above ↦ met-right waits m file b p q one.acts two.acts of one.steps.did.acted (two.met b above to)
         ];
         stops = subst (λ o. IfSome o StopsWriteback) (sym fault) two.stops;
-        cause = subst (λ o. IfSome o (IsCaused (own_entries (one.acts ++ two.acts)))) (sym fault) (subst (λ l. IfSome later.fault (IsCaused l)) (sym entries) (caused-later (own_entries one.acts) (own_entries two.acts) later.fault two.cause));
+        cause = subst (λ o. IfSome o (IsCaused m (own_entries (one.acts ++ two.acts)))) (sym fault) (subst (λ l. IfSome later.fault (IsCaused m l)) (sym entries) (caused-later m (own_entries one.acts) (own_entries two.acts) later.fault two.cause));
       }
 
   -- a walk that came to the end of its blocks, or was stopped, is the whole
@@ -184,6 +194,7 @@ module _ (m : MountView) (file : FileId) (waits : Bool) where
         bios = w.bios;
         few_bios = omega (arith, few', within');
         enough_bios = w.enough_bios;
+        returned = w.returned;
         sought = on.sought p [] of refl;
         turns = omega (arith, turns);
         failed = w.failed;
@@ -206,6 +217,7 @@ walks-none m file waits at lane p of = record {
   bios = refl;
   few_bios = omega arith;
   enough_bios = omega arith;
+  returned = refl;
   failed = refl;
   met = λ b low high. absurd (omega (arith, low, high));
   stops = tt;

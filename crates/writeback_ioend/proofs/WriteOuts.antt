@@ -1,7 +1,7 @@
 -- The acts of calls that write dirty blocks to the device.
-use Rattle.std.proofs.Common.{◌≡◌, ℕ, ◌-◌, ◌*◌, ◌≤◌, ◌<◌, inl, inr, min, Bool, true, false, List, [], ◌∷◌, ◌++◌, Some, None, refl, sym, ap, ◌∙◌, subst, arith}
+use Rattle.std.proofs.Common.{◌≡◌, ℕ, ◌-◌, ◌*◌, ◌≤◌, ◌<◌, inl, inr, min, Bool, true, false, List, [], ◌∷◌, ◌++◌, Some, None, length, refl, sym, ap, ◌∙◌, subst, arith}
 use Rattle.std.specs.Prelude.{◌&&◌, IfSome, IsTrue, Option, slice_get}
-use Rattle.std.proofs.lemmas.Bool.{false≢true, le-leb}
+use Rattle.std.proofs.lemmas.Bool.{le-leb}
 use Rattle.std.proofs.lemmas.List.Elements.{All-weaker}
 use Rattle.iob_base.specs.declared.answer.Answer.{Answer}
 use Rattle.iob_base.specs.declared.answer.Fault.{Fault}
@@ -13,8 +13,6 @@ use Rattle.io_model.specs.declared.script.Verb.TheVariants.{Wb}
 use Rattle.fault_device.specs.LaneView.{LaneView}
 use Rattle.range_core.specs.BlockStates.{BlockState}
 use Rattle.range_core.specs.declared.entry.Entry.{Entry}
-use Rattle.range_core.specs.declared.entry.Event.{Event}
-use Rattle.range_core.specs.declared.entry.Event.TheVariants as event
 use Rattle.mount_parts.specs.MountView.{MountView, file_at}
 use Rattle.mini_fs.specs.Acts.{Act, own_entries}
 use Rattle.mini_fs.specs.Acts.Act.{Turn, SizeTurn, Busy, Open, Close, Take, Refused, Leave, Run, Note, Number}
@@ -24,21 +22,14 @@ use Rattle.mini_fs.specs.PassView.{IsPassOf, PassView}
 use Rattle.mini_fs.proofs.CallEnds.{acted-caller, acted-locks, acted-shares, acted-spare}
 use Rattle.mini_fs.proofs.CallLemmas.{call-then}
 use Rattle.call_parts.specs.Causes.{IsCaused}
-use Rattle.call_parts.specs.Steps.{IsQuiet, Steps, is_quiet}
+use Rattle.call_parts.specs.Steps.{IsQuiet, Steps, dones_in}
 use Rattle.call_parts.proofs.NumberLemmas.{call-numbered, tickets-numbered}
 use Rattle.call_parts.proofs.StepLemmas.{quiet-stamps, steps-none}
 use Rattle.writeback_ioend.specs.AnswersWriteBack.{AnswersWriteBack}
 use Rattle.writeback_ioend.specs.WriteRuns.{WritesOut, WritesRun, end_in, written_reply}
 use Rattle.writeback_ioend.specs.Writebacks.{AsksAscend, AsksAt, AsksDue, IsDueState, IsMet, StopsWriteback, WasFound, WritesBack, all_written, writes_back}
 use Rattle.writeback_ioend.specs.declared.walk.Written.{Written}
-
--- none of these events gives bytes or leaves stamps
-writes-quiet : (e : Event) → IsTrue (writes_back e) → IsTrue (is_quiet e)
-writes-quiet (event.Sample block most) is = refl
-writes-quiet (event.Attach block blocks) is = refl
-writes-quiet (event.LendWriteback block most) is = refl
-writes-quiet (event.WrittenBack ticket block kind blocks done) is = refl
-writes-quiet e is = absurd (false≢true is)
+use Rattle.writeback_ioend.proofs.Moves.{writes-quiet}
 
 -- a pass with the number of another call is the same else
 pub shares-begun : (m : MountView) (file : FileId) (call : ℕ) (p q : PassView) → q ≡ with_call p call → MayCall m file call p → HasShares m file 64 q
@@ -90,9 +81,9 @@ module _ (m : MountView) (file : FileId) (call : ℕ) (p : PassView) where
 
 -- Steps of such calls, without a number of the call and with one
 module _ (m : MountView) (file : FileId) (waits : Bool) (from to : ℕ) (a b : LaneView) where
-  pub out-plain : (p q : PassView) (acts : List Act) (stopped : Option Fault) → Steps m file writes_back a b p q acts → AsksAscend waits from (own_entries acts) → AsksDue m file p [] acts → loans_in acts ≤ to - from → all_written (own_entries acts) ≤ loans_in acts * 16
-      → (stopped ≡ None → (i : ℕ) → from ≤ i → i < to → IsMet waits m file i p acts) → IfSome stopped StopsWriteback → IfSome stopped (IsCaused (own_entries acts)) → WritesOut m file waits from to a b p q acts stopped
-  out-plain p q acts stopped steps ascending sought few enough met stops cause = record {
+  pub out-plain : (p q : PassView) (acts : List Act) (stopped : Option Fault) → Steps m file writes_back a b p q acts → AsksAscend waits from (own_entries acts) → AsksDue m file p [] acts → loans_in acts ≤ to - from → all_written (own_entries acts) ≤ loans_in acts * 16 → length (dones_in (own_entries acts)) ≡ loans_in acts
+      → (stopped ≡ None → (i : ℕ) → from ≤ i → i < to → IsMet waits m file i p acts) → IfSome stopped StopsWriteback → IfSome stopped (IsCaused m (own_entries acts)) → WritesOut m file waits from to a b p q acts stopped
+  out-plain p q acts stopped steps ascending sought few enough returned met stops cause = record {
     did = steps.did;
     callers = steps.callers;
     run = steps.run;
@@ -104,15 +95,16 @@ module _ (m : MountView) (file : FileId) (waits : Bool) (from to : ℕ) (a b : L
     sought = sought;
     few_bios = few;
     enough_bios = enough;
+    returned = returned;
     met = met;
     stops = stops;
     cause = cause;
   }
 
-  pub out-numbered : (call : ℕ) (p q : PassView) (acts : List Act) (stopped : Option Fault) → Steps m file writes_back a b (with_call p call) q acts → AsksAscend waits from (own_entries acts) → AsksDue m file (with_call p call) [] acts → loans_in acts ≤ to - from → all_written (own_entries acts) ≤ loans_in acts * 16
-      → (stopped ≡ None → (i : ℕ) → from ≤ i → i < to → IsMet waits m file i (with_call p call) acts) → IfSome stopped StopsWriteback → IfSome stopped (IsCaused (own_entries acts)) → WritesOut m file waits from to a b p q (Number call ∷ acts) stopped
-  out-numbered call p q acts stopped steps ascending sought few enough met stops cause =
-      let plain = out-plain (with_call p call) q acts stopped steps ascending sought few enough met stops cause in
+  pub out-numbered : (call : ℕ) (p q : PassView) (acts : List Act) (stopped : Option Fault) → Steps m file writes_back a b (with_call p call) q acts → AsksAscend waits from (own_entries acts) → AsksDue m file (with_call p call) [] acts → loans_in acts ≤ to - from → all_written (own_entries acts) ≤ loans_in acts * 16 → length (dones_in (own_entries acts)) ≡ loans_in acts
+      → (stopped ≡ None → (i : ℕ) → from ≤ i → i < to → IsMet waits m file i (with_call p call) acts) → IfSome stopped StopsWriteback → IfSome stopped (IsCaused m (own_entries acts)) → WritesOut m file waits from to a b p q (Number call ∷ acts) stopped
+  out-numbered call p q acts stopped steps ascending sought few enough returned met stops cause =
+      let plain = out-plain (with_call p call) q acts stopped steps ascending sought few enough returned met stops cause in
       record {
         did = call-then m file writes_back p (with_call p call) q (Number call ∷ []) acts (call-numbered m file writes_back p call) steps.did;
         callers = plain.callers;
@@ -125,6 +117,7 @@ module _ (m : MountView) (file : FileId) (waits : Bool) (from to : ℕ) (a b : L
         sought = (tt, asks-numbered m file call p [] acts sought);
         few_bios = few;
         enough_bios = enough;
+        returned = returned;
         met = λ none i low high. met-numbered m file i waits call p acts (met none i low high);
         stops = stops;
         cause = cause;
@@ -159,11 +152,12 @@ none-written m file waits from n to lane p written of is over blocks bios failed
     sought = tt;
     few_bios = omega (arith, bios);
     enough_bios = omega (arith, blocks);
+    returned = refl;
     turns = omega arith;
     failed = failed;
     met = λ none b low high. absurd (omega (arith, is, over, low, high));
     stops = subst (λ f. IfSome f StopsWriteback) (sym fault) tt;
-    cause = subst (λ f. IfSome f (IsCaused [])) (sym fault) tt;
+    cause = subst (λ f. IfSome f (IsCaused m [])) (sym fault) tt;
   };
   none = λ empty. (refl, fault);
 }
@@ -208,7 +202,7 @@ module _ (m : MountView) (file : FileId) (call from n : ℕ) (a b : LaneView) (p
       record {
         acts = Number call ∷ w.acts;
         stopped = written.fault;
-        out = out-numbered m file false from (end_in m file from n) a b call p q w.acts written.fault w.steps w.ascending w.sought (omega (arith, lent, few')) (omega (arith, lent, wrote, enough)) w.met w.stops w.cause;
+        out = out-numbered m file false from (end_in m file from n) a b call p q w.acts written.fault w.steps w.ascending w.sought (omega (arith, lent, few')) (omega (arith, lent, wrote, enough)) w.returned w.met w.stops w.cause;
         none = begun-run.none;
         reply = is ∙ ap (λ k. written_reply k written.fault) w.blocks;
         lawful = λ range. ap (is_count_reply (min n (blocks - from)) true (Wb from n)) is ∙ reply-counts (Wb from n) (min n (blocks - from)) written.blocks written.fault refl (λ cookie. refl) (omega (arith, few)) w.stops;

@@ -28,7 +28,7 @@ pub record Flushes (m : MountView) (file : FileId) (from n : ℕ) (before after 
   pub out : WritesOut m file true from (end_in m file from n) before after p q acts stopped
   pub none : end_in m file from n ≤ from → (own_entries acts ≡ []) × (stopped ≡ None)
   pub fault : flushed.fault ≡ flush_fault (first_failed (own_entries acts)) stopped
-  pub cause : IfSome flushed.fault (IsCaused (own_entries acts))
+  pub cause : IfSome flushed.fault (IsCaused m (own_entries acts))
   pub bios : flushed.bios ≡ loans_in acts
   pub turns : turns_in acts ≤ write_turns from (end_in m file from n) flushed.bios (refused_loans (own_entries acts)) stopped
 

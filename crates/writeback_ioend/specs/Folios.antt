@@ -1,5 +1,5 @@
 -- How the dirty blocks of one folio go out together and come back.
-use Rattle.std.specs.Prelude.{◌≡◌, ◌⊎◌, ℕ, suc, ◌+◌, ◌-◌, ◌*◌, ◌<◌, ◌≤◌, ◌==◌, Bool, false, if◌then◌else◌, Option, Some, None, IfSome, List, [], ◌∷◌, ◌++◌, length}
+use Rattle.std.specs.Prelude.{◌≡◌, ◌⊎◌, ℕ, suc, ◌+◌, ◌-◌, ◌*◌, ◌%◌, ◌<◌, ◌≤◌, ◌==◌, Bool, false, if◌then◌else◌, Option, Some, None, IfSome, List, [], ◌∷◌, ◌++◌, length}
 use Rattle.iob_base.specs.declared.answer.Fault.{Fault}
 use Rattle.iob_base.specs.declared.answer.Fault.TheVariants as answer
 use Rattle.iob_base.specs.declared.stamp.FileId.{FileId}
@@ -14,8 +14,8 @@ use Rattle.range_core.specs.EntryCounts.{one_where}
 use Rattle.range_core.specs.declared.fault.EventFault.{EventFault}
 use Rattle.range_core.specs.declared.fault.EventFault.TheVariants.{Away, Settled, Unattached, Worn}
 use Rattle.range_core.specs.declared.lending.Lender.TheVariants.{Writeback}
-use Rattle.mount_parts.specs.MountView.{MountView}
-use Rattle.mini_fs.specs.Acts.{Act, Acted, HasRun, bios_in, closed_in, opened_in, own_entries}
+use Rattle.mount_parts.specs.MountView.{MountView, stripe_at}
+use Rattle.mini_fs.specs.Acts.{Act, Acted, HasRun, bios_in, closed_in, made_in, opened_in, own_entries}
 use Rattle.mini_fs.specs.CallActs.{IsStripeOf, loans_in}
 use Rattle.mini_fs.specs.Loans.{CarriesLoan}
 use Rattle.mini_fs.specs.PassView.{IsPassOf, PassView}
@@ -39,10 +39,11 @@ carried_by bios = total (λ (b : Bio TicketView). length b.parts) bios
 abbrev pub tickets_at : ℕ → List (Bio TicketView) → ℕ
 tickets_at k bios = total (λ (b : Bio TicketView). one_where (b.ticket.stripe == k)) bios
 
--- a bio is to go with what was lent of a stripe of the file on its ticket for a write of it, by the loan of this number
+-- A bio is to go with what was lent of a stripe of the file on its ticket for a write of it, by the loan of this number. Its blocks cross no border of a stripe
 pub record IsLent (m : MountView) (file : FileId) (number : ℕ) (b : Bio TicketView) : Type 0 where
   pub loan : CarriesLoan m file Writeback Write number b
   pub here : IsStripeOf m file b.ticket.stripe
+  pub folds : b.block % 64 + length b.parts ≤ 64
 
 -- the same of some bios, which have the slots from one on
 abbrev pub AreLent : MountView → FileId → ℕ → List ℕ → List (Bio TicketView) → Type 0
@@ -90,7 +91,7 @@ pub record Lends (m : MountView) (file : FileId) (waits : Bool) (slot at next : 
   pub lent : AreLent m file slot numbers bios
   pub met : (b : ℕ) → at ≤ b → b < next → WasFound IsSettled m file b p acts ⊎ (HasOne (Carries b) bios ⊎ ((waits ≡ false) × WasFound IsAway m file b p acts))
   pub stops : IfSome fault StopsWriteback
-  pub cause : IfSome fault (IsCaused (own_entries acts))
+  pub cause : IfSome fault (IsCaused m (own_entries acts))
 
 -- how often acts asked for a loan, if so many bios are to go with what they got
 abbrev pub tries_in : List (Bio TicketView) → List Act → ℕ
@@ -144,7 +145,7 @@ pub record Returns (m : MountView) (file : FileId) (p q : PassView) (bios : List
   pub written : blocks ≡ all_written (own_entries acts)
   pub few : blocks ≤ carried_by bios
   pub failed_is : failed ≡ first_failed (own_entries acts)
-  pub back : (b : ℕ) → HasOne (Carries b) bios → HasOne (TookBack b) (own_entries acts)
+  pub back : (b : ℕ) → HasOne (Carries b) bios → HasOne (TookBack b) (made_in (stripe_at m file b) acts)
 
 -- From the pass `p` to the pass `q` some bios were run on a lane and came back, what went with them was taken back, and their tickets were closed. So many blocks were written, and this is the first transfer that failed
 pub record Sends (m : MountView) (file : FileId) (before after : LaneView) (p q : PassView) (bios : List (Bio TicketView)) (blocks : ℕ) (failed : Option Done) : Type 0 where

@@ -1,5 +1,5 @@
 -- How a walk over blocks that writes the dirty ones goes on, and what of its turns tell.
-use Rattle.std.specs.Prelude.{◌≡◌, ℕ, ◌+◌, ◌-◌, ◌*◌, ◌%◌, ◌<◌, ◌≤◌, min, Bool, Option, None, IfSome, All, IsTrue, List, [], ◌∷◌}
+use Rattle.std.specs.Prelude.{◌≡◌, ℕ, ◌+◌, ◌-◌, ◌*◌, ◌%◌, ◌<◌, ◌≤◌, min, Bool, Option, None, IfSome, All, IsTrue, List, [], ◌∷◌, length}
 use Rattle.iob_base.specs.declared.answer.Fault.{Fault}
 use Rattle.iob_base.specs.declared.stamp.FileId.{FileId}
 use Rattle.fault_device.specs.LaneView.{LaneView}
@@ -9,7 +9,7 @@ use Rattle.mini_fs.specs.Acts.{Act, Acted, own_entries}
 use Rattle.mini_fs.specs.CallActs.{IsActAt, loans_in, lock_acts, size_acts}
 use Rattle.mini_fs.specs.PassView.{IsPassOf, PassView}
 use Rattle.call_parts.specs.Causes.{IsCaused}
-use Rattle.call_parts.specs.Steps.{Steps}
+use Rattle.call_parts.specs.Steps.{Steps, dones_in}
 use Rattle.writeback_ioend.specs.Writebacks.{AsksAscend, AsksDue, AsksFrom, IsMet, StopsWriteback, all_written, asked_to, first_failed, last_turns, or_else, refused_loans, stripes_met, turns_in, write_turns, writes_back}
 use Rattle.writeback_ioend.specs.declared.walk.Written.{Written}
 
@@ -42,10 +42,11 @@ pub record Walks (m : MountView) (file : FileId) (waits : Bool) (at next : ℕ) 
   pub bios : written.bios ≡ loans_in acts
   pub few_bios : written.bios ≤ next - at
   pub enough_bios : written.blocks ≤ written.bios * 16
+  pub returned : length (dones_in (own_entries acts)) ≡ loans_in acts
   pub failed : written.failed ≡ first_failed (own_entries acts)
   pub met : (b : ℕ) → at ≤ b → b < next → IsMet waits m file b p acts
   pub stops : IfSome written.fault StopsWriteback
-  pub cause : IfSome written.fault (IsCaused (own_entries acts))
+  pub cause : IfSome written.fault (IsCaused m (own_entries acts))
 
 -- The same within a walk up to another block, whose stripes from the next block on are still to be met: so many turns it took at most
 pub record WalksOn (m : MountView) (file : FileId) (waits : Bool) (to at next : ℕ) (before after : LaneView) (p q : PassView) (written : Written) : Type 0 where

@@ -1,5 +1,5 @@
 -- What calls have in common that write the dirty blocks of a run of a file to the device.
-use Rattle.std.specs.Prelude.{◌≡◌, ℕ, ◌+◌, ◌-◌, ◌*◌, ◌<◌, ◌≤◌, min, Bool, Option, Some, None, IfSome, List, [], All}
+use Rattle.std.specs.Prelude.{◌≡◌, ℕ, ◌+◌, ◌-◌, ◌*◌, ◌<◌, ◌≤◌, min, Bool, Option, Some, None, IfSome, List, [], All, length}
 use Rattle.iob_base.specs.declared.answer.Fault.{Fault}
 use Rattle.iob_base.specs.declared.answer.Reply.{Reply}
 use Rattle.iob_base.specs.declared.answer.Reply.TheVariants.{Ok, Err}
@@ -29,7 +29,7 @@ pub record WritesRun (m : MountView) (file : FileId) (waits : Bool) (from n : �
   pub back : WritesBack m file waits from (end_in m file from n) before after p q written
   pub none : end_in m file from n ≤ from → (own_entries back.acts ≡ []) × (written.fault ≡ None)
 
--- What these acts of a call did that was stopped by this fault, or by none: they wrote dirty blocks of a file to the device, each at most once, in order, with bios of 1 to 16 blocks, took no class, met no size and left no stamp. They asked for no block but one that they had found dirty or away, and not again for one that they passed by. Where nothing stopped the call, no block from one up to another was missed
+-- What these acts of a call did that was stopped by this fault, or by none: they wrote dirty blocks of a file to the device, each at most once, in order, with bios of 1 to 16 blocks, each of which came back, took no class, met no size and left no stamp. They asked for no block but one that they had found dirty or away, and not again for one that they passed by. Where nothing stopped the call, no block from one up to another was missed
 pub record WritesOut (m : MountView) (file : FileId) (waits : Bool) (from to : ℕ) (before after : LaneView) (p q : PassView) (acts : List Act) (stopped : Option Fault) : Type 0 where
   pub did : CallActs m file writes_back p q acts
   pub callers : All (λ e. e.caller ≡ p.caller) (own_entries acts)
@@ -42,9 +42,10 @@ pub record WritesOut (m : MountView) (file : FileId) (waits : Bool) (from to : �
   pub sought : AsksDue m file p [] acts
   pub few_bios : loans_in acts ≤ to - from
   pub enough_bios : all_written (own_entries acts) ≤ loans_in acts * 16
+  pub returned : length (dones_in (own_entries acts)) ≡ loans_in acts
   pub met : stopped ≡ None → (b : ℕ) → from ≤ b → b < to → IsMet waits m file b p acts
   pub stops : IfSome stopped StopsWriteback
-  pub cause : IfSome stopped (IsCaused (own_entries acts))
+  pub cause : IfSome stopped (IsCaused m (own_entries acts))
 
 -- what a call replies that wrote so many blocks and then was stopped by a fault, or by none
 abbrev pub written_reply : ℕ → Option Fault → Reply

@@ -19,13 +19,13 @@ use Rattle.range_core.specs.declared.entry.Outcome.TheVariants.{Counted, Lending
 use Rattle.range_core.specs.declared.fault.EventFault.{EventFault}
 use Rattle.range_core.specs.declared.fault.EventFault.TheVariants.{Away, Settled}
 use Rattle.mount_parts.specs.MountView.{MountView, stripe_at, stripes_of}
-use Rattle.mini_fs.specs.Acts.{Act, Acted, own_entries, seen_in}
+use Rattle.mini_fs.specs.Acts.{Act, Acted, made_in, own_entries, seen_in}
 use Rattle.mini_fs.specs.Acts.Act.{Turn}
 use Rattle.mini_fs.specs.CallActs.{loans_in}
 use Rattle.mini_fs.specs.PassView.{IsPassOf, PassView}
 use Rattle.call_parts.specs.Causes.{HasOne, IsCaused}
 use Rattle.call_parts.specs.Reads.{seen_at}
-use Rattle.call_parts.specs.Steps.{Steps}
+use Rattle.call_parts.specs.Steps.{Steps, dones_in}
 use Rattle.writeback_ioend.specs.declared.walk.Written.{Written}
 
 -- the events of a call that writes dirty blocks out: looks, space for the dirty blocks that were promised some, loans and returns
@@ -127,9 +127,9 @@ TakesBack b _ = ⊥
 abbrev pub TookBack : ℕ → Entry → Type 0
 TookBack b e = TakesBack b e.event
 
--- No block is missed: it was found settled, or was written and came back, or, where the call does not wait for others, was found away
+-- No block is missed: it was found settled, or was written and came back to its stripe, or, where the call does not wait for others, was found away
 abbrev pub IsMet : Bool → MountView → FileId → ℕ → PassView → List Act → Type 0
-IsMet waits m file b p acts = WasFound IsSettled m file b p acts ⊎ (HasOne (TookBack b) (own_entries acts) ⊎ ((waits ≡ false) × WasFound IsAway m file b p acts))
+IsMet waits m file b p acts = WasFound IsSettled m file b p acts ⊎ (HasOne (TookBack b) (made_in (stripe_at m file b) acts) ⊎ ((waits ≡ false) × WasFound IsAway m file b p acts))
 
 -- how many turns at stripes acts made
 abbrev pub turns_in : List Act → ℕ
@@ -173,9 +173,10 @@ pub record WritesBack (m : MountView) (file : FileId) (waits : Bool) (from to : 
   pub bios : written.bios ≡ loans_in acts
   pub few_bios : written.bios ≤ to - from
   pub enough_bios : written.blocks ≤ written.bios * 16
+  pub returned : length (dones_in (own_entries acts)) ≡ loans_in acts
   pub sought : AsksDue m file p [] acts
   pub turns : turns_in acts ≤ write_turns from to written.bios (refused_loans (own_entries acts)) written.fault
   pub failed : written.failed ≡ first_failed (own_entries acts)
   pub met : written.fault ≡ None → (b : ℕ) → from ≤ b → b < to → IsMet waits m file b p acts
   pub stops : IfSome written.fault StopsWriteback
-  pub cause : IfSome written.fault (IsCaused (own_entries acts))
+  pub cause : IfSome written.fault (IsCaused m (own_entries acts))

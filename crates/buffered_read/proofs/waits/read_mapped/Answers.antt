@@ -6,7 +6,7 @@ use Rattle.mount_parts.specs.MountView.{file_at}
 use Rattle.mini_fs.specs.Calls.{HasShares}
 use Rattle.mini_fs.specs.Mappings.{file_end}
 use Rattle.buffered_read.proofs.RangeLemmas.{came-within, done-to, mapping-read, reach-so, unended-kept}
-use Rattle.buffered_read.proofs.WarmLemmas.{next-fewer, some-size}
+use Rattle.buffered_read.proofs.AimLemmas.{next-fewer, some-size}
 use Rattle.buffered_read.proofs.waits.read_mapped.Goals as goal
 
 pub mapped_to-to-requires-clause-covers : goal.mapped_to-to-requires-clause-covers

@@ -3,7 +3,8 @@ use Rattle.mini_fs.proofs.CallEnds.{acted-caller}
 use Rattle.call_parts.specs.Parts.{part_end}
 use Rattle.buffered_read.specs.Preads.{may_read}
 use Rattle.buffered_read.proofs.ReadLemmas.{so-far-all, so-far-next, so-far-none, so-far-room, so-far-short}
-use Rattle.buffered_read.proofs.WarmLemmas.{next-fewer, next-part, shares-after, some-size}
+use Rattle.buffered_read.proofs.AimLemmas.{next-fewer, next-part, some-size}
+use Rattle.buffered_read.proofs.WarmLemmas.{shares-after}
 use Rattle.buffered_read.proofs.waits.read_mapping.Goals as goal
 
 pub loop-at-init : goal.loop-at-init

@@ -8,7 +8,8 @@ use Rattle.mini_fs.proofs.CallEnds.{acted-caller}
 use Rattle.call_parts.specs.Maps.{maps}
 use Rattle.buffered_read.specs.Preads.{IsMappedAt}
 use Rattle.buffered_read.proofs.RangeLemmas.{done-begun, has-begun, mapped-at, never-none, never-refused, next-read}
-use Rattle.buffered_read.proofs.WarmLemmas.{shares-after, some-size}
+use Rattle.buffered_read.proofs.AimLemmas.{some-size}
+use Rattle.buffered_read.proofs.WarmLemmas.{shares-after}
 use Rattle.buffered_read.proofs.waits.read_next.Goals as goal
 
 pub next_mapping-requires-clause-within : goal.next_mapping-requires-clause-within

@@ -2,7 +2,8 @@ use Rattle.std.proofs.Common.{◌-◌, sym, ◌∙◌, refl, subst, arith}
 use Rattle.range_core.specs.ByteRuns.{HasNext}
 use Rattle.mini_fs.proofs.CallEnds.{acted-caller}
 use Rattle.buffered_read.specs.Preads.{may_read}
-use Rattle.buffered_read.proofs.WarmLemmas.{RoundIs, aim-first, aim-iov, aim-within, next-fewer, part-before, round-so, shares-after, some-size}
+use Rattle.buffered_read.proofs.AimLemmas.{RoundIs, aim-first, aim-iov, aim-within, next-fewer, part-before, round-so, some-size}
+use Rattle.buffered_read.proofs.WarmLemmas.{shares-after}
 use Rattle.buffered_read.proofs.warm.read_part.Goals as goal
 
 pub loop-init : goal.loop-init

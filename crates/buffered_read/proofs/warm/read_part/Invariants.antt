@@ -1,7 +1,7 @@
 use Rattle.std.proofs.Common.{◌≡◌}
 use Rattle.fault_device.specs.LaneView.{lane_seen}
 use Rattle.mini_fs.specs.PassView.{IsPassOf}
-use Rattle.buffered_read.proofs.WarmLemmas.{IsAim}
+use Rattle.buffered_read.proofs.AimLemmas.{IsAim}
 use Rattle.buffered_read.proofs.warm.read_part.Given as goal
 
 abbrev pub invariant-loop : goal.invariant-loop

@@ -10,5 +10,5 @@ invariant-loop g l = record {
   begun : l.pass.begun ≡ l.initial.pass.begun;
   can : CanLay l.mount l.file l.seen l.from l.to l.pass;
   same : l.iov ≡ l.initial.iov;
-  writes : Writes l.mount l.file l.by l.from (lane_seen (λ z. (goal.Fate-dyn g z).count z.1) (λ z. (goal.Fate-dyn g z).tells z.1) l.initial.lane) (lane_seen (λ z. (goal.Fate-dyn g z).count z.1) (λ z. (goal.Fate-dyn g z).tells z.1) l.lane) l.initial.pass l.pass l.initial.iov l.iov (progress l.from l.bios None);
+  writes : Writes l.mount l.file l.by l.from l.to (lane_seen (λ z. (goal.Fate-dyn g z).count z.1) (λ z. (goal.Fate-dyn g z).tells z.1) l.initial.lane) (lane_seen (λ z. (goal.Fate-dyn g z).count z.1) (λ z. (goal.Fate-dyn g z).tells z.1) l.lane) l.initial.pass l.pass l.initial.iov l.iov (progress l.from l.bios None);
 }

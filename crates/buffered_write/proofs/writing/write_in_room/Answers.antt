@@ -19,5 +19,5 @@ use_room-requires-clause-within g c =
 
 pub returns-clause-written : goal.returns-clause-written
 returns-clause-written g c =
-    in-room c.args.mount.now c.args.file c.args.by c.args.from _ _ c.args.iov.now c.write_range-came.new.iov c.write_range-came.result c.args.pass.now c.write_range-came.new.pass c.use_room.new.pass c.requires.sized c.write_range-came.ensures.written c.use_room.ensures.used
+    in-room c.args.mount.now c.args.file c.args.by c.args.from c.args.to _ _ c.args.iov.now c.write_range-came.new.iov c.write_range-came.result c.args.pass.now c.write_range-came.new.pass c.use_room.new.pass c.requires.sized c.write_range-came.ensures.written c.use_room.ensures.used
     c.use_room.ensures.of c.use_room.ensures.tickets

@@ -21,5 +21,5 @@ returns-clause-free g c =
 
 pub returns-clause-written : goal.returns-clause-written
 returns-clause-written g c =
-    locked-so c.args.mount.now c.args.file c.args.by c.args.from _ _ c.args.iov.now c.write_any-came.new.iov c.write_any-came.result c.args.pass.now c.exclusive-hold.new.pass c.write_any-came.new.pass c.leave_exclusive.new.pass c.exclusive-hold.result
+    locked-so c.args.mount.now c.args.file c.args.by c.args.from c.args.to _ _ c.args.iov.now c.write_any-came.new.iov c.write_any-came.result c.args.pass.now c.exclusive-hold.new.pass c.write_any-came.new.pass c.leave_exclusive.new.pass c.exclusive-hold.result
     c.exclusive-hold.ensures.won c.exclusive-hold.ensures.tickets c.exclusive-hold.ensures.hold c.write_any-came.ensures.written c.leave_exclusive.ensures.left c.leave_exclusive.ensures.of c.leave_exclusive.ensures.tickets

@@ -2,8 +2,7 @@ use Rattle.std.proofs.Common.{sym, ap, ◌∙◌, ◌≡◌, subst, arith}
 use Rattle.call_parts.specs.Parts.{part_end}
 use Rattle.buffered_write.specs.Pwrites.{Writes}
 use Rattle.call_parts.specs.declared.progress.Progress.{Progress}
-use Rattle.buffered_write.proofs.StoredLemmas.{lay-some, writes-then}
-use Rattle.buffered_write.proofs.WriteLemmas.{HasWritten, meet-on, part-of, whole-part, written-none, written-on}
+use Rattle.buffered_write.proofs.WriteLemmas.{HasWritten, part-of, part-then, whole-part, written-none, written-on}
 use Rattle.buffered_write.proofs.writing.write_mapping.Goals as goal
 
 pub loop-came-init : goal.loop-came-init
@@ -15,10 +14,10 @@ store_part-part-requires-clause-folio g c =
 
 pub returns-then-not-goes_on-clause-written : goal.returns-then-not-goes_on-clause-written
 returns-then-not-goes_on-clause-written g c =
-    let sofar = c.loop-came.invariant in
-    subst (Writes c.args.mount.now c.args.file c.args.by c.args.from _ _ c.args.pass.now c.store_part-part.new.pass c.args.iov.now c.store_part-part.new.iov) (sym c.followed-came.ensures)
-    (writes-then c.args.mount.now c.args.file c.args.by c.args.from _ _ _ c.args.pass.now c.loop-came.pass c.store_part-part.new.pass c.args.iov.now c.loop-came.iov c.store_part-part.new.iov c.loop-came.came c.store_part-part.result.came
-    (lay-some c.args.mount.now c.args.file c.args.seen c.args.from c.args.to c.args.pass.now c.requires.can) sofar.whole (meet-on c.args.mount.now.geometry.block_size c.args.from c.loop-came.came.at c.args.to c.store_part-part.result.came.at c.loop-came-test.true sofar.meet) sofar.writes c.store_part-part.ensures.written)
+    let part = part-of c.args.mount.now c.sizes-geometry.ensures.blocks c.sizes-geometry.ensures.folios c.args.to c.loop-came.came.at c.part_end-next.result (c.part_end-next.ensures ∙ ap (λ g. part_end g c.args.to c.loop-came.came.at) c.sizes-geometry.ensures.is) c.loop-came-test.true in
+    subst (Writes c.args.mount.now c.args.file c.args.by c.args.from c.args.to _ _ c.args.pass.now c.store_part-part.new.pass c.args.iov.now c.store_part-part.new.iov) (sym c.followed-came.ensures)
+    (part-then c.args.mount.now c.args.file c.args.by c.args.seen c.args.from c.args.to _ _ _ c.args.pass.now c.loop-came.pass c.store_part-part.new.pass c.args.iov.now c.loop-came.iov c.store_part-part.new.iov c.loop-came.came c.store_part-part.result.came c.part_end-next.result
+    c.loop-came-test.true part c.loop-came.invariant c.store_part-part.ensures.written)
 
 pub loop-came-smaller : goal.loop-came-smaller
 loop-came-smaller g c =

@@ -13,9 +13,9 @@ write_in_room-requires-clause-room g c = c.in-Ok.ensures.made.room
 
 pub returns-in-Ok-clause-written : goal.returns-in-Ok-clause-written
 returns-in-Ok-clause-written g c =
-    made-so c.args.mount.now c.args.file c.args.by c.args.from _ _ c.args.iov.now c.write_in_room.new.iov c.write_in_room.result c.args.pass.now c.make_room.new.pass c.write_in_room.new.pass c.in-Ok.field-0 c.requires.sized c.in-Ok.ensures.made c.make_room.ensures.tickets c.write_in_room.ensures.written
+    made-so c.args.mount.now c.args.file c.args.by c.args.from c.args.to _ _ c.args.iov.now c.write_in_room.new.iov c.write_in_room.result c.args.pass.now c.make_room.new.pass c.write_in_room.new.pass c.in-Ok.field-0 c.requires.sized c.in-Ok.ensures.made c.make_room.ensures.tickets c.write_in_room.ensures.written
 
 pub returns-in-Err-clause-written : goal.returns-in-Err-clause-written
 returns-in-Err-clause-written g c =
     let less : c.args.from < file_end c.args.mount.now c.args.file = omega (arith, c.requires.some, c.requires.within) in
-    refused-so c.args.mount.now c.args.file c.args.by c.args.from _ c.args.iov.now c.args.pass.now c.make_room.new.pass c.in-Err.field-0 (end-some c.args.mount.now c.args.file c.args.from less) c.requires.sized c.in-Err.ensures.made c.make_room.ensures.of c.make_room.ensures.tickets
+    refused-so c.args.mount.now c.args.file c.args.by c.args.from c.args.to _ c.args.iov.now c.args.pass.now c.make_room.new.pass c.in-Err.field-0 (end-some c.args.mount.now c.args.file c.args.from less) c.requires.sized c.in-Err.ensures.made c.make_room.ensures.of c.make_room.ensures.tickets

@@ -13,7 +13,7 @@ dax_zero-requires-clause-ready g c = λ cell seat stand. (
 
 pub returns-clause-came : goal.returns-clause-came
 returns-clause-came g c =
-    zeroed-through c.args.mount.now c.args.file c.args.by c.args.seen c.args.from c.args.to c.args.pass.now c.dax_zero.new.pass c.is_laid_out.ensures c.requires.under c.dax_zero.ensures.of c.dax_zero.ensures.tickets _ _ c.dax_zero.result c.dax_zero.ensures.turned
+    zeroed-through c.args.mount.now c.args.file c.args.by c.args.seen c.args.from c.args.to c.args.pass.now c.dax_zero.new.pass c.is_laid_out.ensures c.requires.under c.dax_zero.ensures.of c.dax_zero.ensures.tickets c.requires.mode _ _ c.dax_zero.result c.dax_zero.ensures.turned
 
 pub returns-clause-goes : goal.returns-clause-goes
 returns-clause-goes g c = through-goes-at c.args.mount.now c.args.file c.args.by c.args.from c.args.to _ _ c.args.pass.now c.dax_zero.new.pass c.dax_zero.result c.requires.goes (returns-clause-came g c)

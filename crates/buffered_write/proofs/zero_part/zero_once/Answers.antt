@@ -13,7 +13,7 @@ store_zeros-requires-clause-ready g c = λ cell seat stand. (
 
 pub returns-clause-came : goal.returns-clause-came
 returns-clause-came g c =
-    zeroed-once c.args.mount.now c.args.file c.args.by c.args.seen c.args.from c.args.to c.args.pass.now c.store_zeros.new.pass c.is_laid_out.ensures c.requires.under c.store_zeros.ensures.of c.store_zeros.ensures.tickets c.store_zeros.result c.store_zeros.ensures.turned
+    zeroed-once c.args.mount.now c.args.file c.args.by c.args.seen c.args.from c.args.to c.args.pass.now c.store_zeros.new.pass c.is_laid_out.ensures c.requires.under c.store_zeros.ensures.of c.store_zeros.ensures.tickets c.requires.mode c.store_zeros.result c.store_zeros.ensures.turned
 
 pub returns-clause-goes : goal.returns-clause-goes
 returns-clause-goes g c = once-goes-at c.args.mount.now c.args.file c.args.by c.args.from c.args.to c.args.pass.now c.store_zeros.new.pass c.store_zeros.result c.requires.goes (returns-clause-came g c)

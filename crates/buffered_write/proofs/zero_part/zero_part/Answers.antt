@@ -10,7 +10,7 @@ loop-init g c = record {
   goes = c.requires.goes;
   begun = refl;
   under = c.requires.under;
-  zeroes = none-zeroes c.args.mount.now c.args.file c.args.by c.args.from _ c.args.pass.now (under-some c.args.mount.now c.args.file c.args.seen c.args.from c.args.to c.args.pass.now c.requires.under) c.requires.goes.of;
+  zeroes = none-zeroes c.args.mount.now c.args.file c.args.by c.args.from c.args.to _ c.args.pass.now (under-some c.args.mount.now c.args.file c.args.seen c.args.from c.args.to c.args.pass.now c.requires.under) c.requires.goes.of;
 }
 
 pub loop-preserved : goal.loop-preserved
@@ -21,7 +21,7 @@ loop-preserved g c =
       goes = c.try_zero-tried.ensures.goes;
       begun = c.try_zero-tried.ensures.begun ∙ c.loop.invariant.begun;
       under = under-after c.args.mount.now c.args.file c.args.seen c.args.from c.args.to c.loop.pass c.try_zero-tried.new.pass tried.laid.acts tried.laid.steps.did.acted c.loop.invariant.under;
-      zeroes = subst (Zeroes c.args.mount.now c.args.file c.args.by c.args.from _ _ c.args.pass.now c.try_zero-tried.new.pass)
+      zeroes = subst (Zeroes c.args.mount.now c.args.file c.args.by c.args.from c.args.to _ _ c.args.pass.now c.try_zero-tried.new.pass)
           (again-then c.args.mount.now c.args.file c.args.by c.args.from c.args.to c.loop.bios c.try_zero-tried.result.1 c.try_zero-tried.result.0 c.came_of.result c.followed-came.result c.in-Again.is c.came_of.ensures c.followed-came.ensures)
           (zero-tries c.args.mount.now c.args.file c.args.by c.args.from c.args.to _ _ _ c.args.pass.now c.loop.pass c.try_zero-tried.new.pass c.loop.bios c.try_zero-tried.result.1 c.try_zero-tried.result.0 c.came_of.result c.followed-came.result
           some c.came_of.ensures c.followed-came.ensures c.loop.invariant.zeroes tried);

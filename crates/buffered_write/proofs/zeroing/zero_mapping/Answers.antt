@@ -2,10 +2,8 @@ use Rattle.std.proofs.Common.{sym, ap, ◌∙◌, ◌≡◌, subst, arith}
 use Rattle.call_parts.specs.Parts.{part_end}
 use Rattle.call_parts.specs.declared.progress.Progress.{Progress}
 use Rattle.buffered_write.specs.Zeroes.{Zeroes}
-use Rattle.buffered_write.proofs.UnderLemmas.{under-some}
-use Rattle.buffered_write.proofs.WriteLemmas.{meet-on, part-of, whole-part}
-use Rattle.buffered_write.proofs.ZeroLemmas.{HasZeroed, zeroed-none, zeroed-on}
-use Rattle.buffered_write.proofs.ZeroPartLemmas.{zeroes-then}
+use Rattle.buffered_write.proofs.WriteLemmas.{part-of, whole-part}
+use Rattle.buffered_write.proofs.ZeroLemmas.{HasZeroed, zero-part-then, zeroed-none, zeroed-on}
 use Rattle.buffered_write.proofs.zeroing.zero_mapping.Goals as goal
 
 pub loop-came-init : goal.loop-came-init
@@ -17,10 +15,10 @@ zero_part-part-requires-clause-folio g c =
 
 pub returns-then-not-goes_on-clause-zeroed : goal.returns-then-not-goes_on-clause-zeroed
 returns-then-not-goes_on-clause-zeroed g c =
-    let sofar = c.loop-came.invariant in
-    subst (Zeroes c.args.mount.now c.args.file c.args.by c.args.from _ _ c.args.pass.now c.zero_part-part.new.pass) (sym c.followed-came.ensures)
-    (zeroes-then c.args.mount.now c.args.file c.args.by c.args.from _ _ _ c.args.pass.now c.loop-came.pass c.zero_part-part.new.pass c.loop-came.came c.zero_part-part.result.came
-    (under-some c.args.mount.now c.args.file c.args.seen c.args.from c.args.to c.args.pass.now c.requires.under) sofar.whole (meet-on c.args.mount.now.geometry.block_size c.args.from c.loop-came.came.at c.args.to c.zero_part-part.result.came.at c.loop-came-test.true sofar.meet) sofar.zeroes c.zero_part-part.ensures.zeroed)
+    let part = part-of c.args.mount.now c.sizes-geometry.ensures.blocks c.sizes-geometry.ensures.folios c.args.to c.loop-came.came.at c.part_end-next.result (c.part_end-next.ensures ∙ ap (λ g. part_end g c.args.to c.loop-came.came.at) c.sizes-geometry.ensures.is) c.loop-came-test.true in
+    subst (Zeroes c.args.mount.now c.args.file c.args.by c.args.from c.args.to _ _ c.args.pass.now c.zero_part-part.new.pass) (sym c.followed-came.ensures)
+    (zero-part-then c.args.mount.now c.args.file c.args.by c.args.seen c.args.from c.args.to _ _ _ c.args.pass.now c.loop-came.pass c.zero_part-part.new.pass c.loop-came.came c.zero_part-part.result.came c.part_end-next.result
+    c.loop-came-test.true part c.loop-came.invariant c.zero_part-part.ensures.zeroed)
 
 pub loop-came-smaller : goal.loop-came-smaller
 loop-came-smaller g c =

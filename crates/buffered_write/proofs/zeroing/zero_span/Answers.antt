@@ -1,9 +1,7 @@
-use Rattle.std.proofs.Common.{sym, ap, ◌≡◌, ◌∙◌, ◌<◌, arith}
-use Rattle.call_parts.specs.declared.progress.Progress.{Progress}
+use Rattle.std.proofs.Common.{sym, ◌∙◌, ◌<◌, arith}
 use Rattle.mini_fs.specs.Mappings.{file_end}
 use Rattle.buffered_write.proofs.WriteLemmas.{end-some}
 use Rattle.buffered_write.proofs.ZeroLemmas.{come-none, range-goes-on, range-zeroes}
-use Rattle.buffered_write.proofs.ZeroPartLemmas.{zeroes-within}
 use Rattle.buffered_write.proofs.zeroing.zero_span.Goals as goal
 
 pub loop-init : goal.loop-init
@@ -21,9 +19,5 @@ pub returns-then-is_some-clause-zeroed : goal.returns-then-is_some-clause-zeroed
 returns-then-is_some-clause-zeroed g c =
     let less : c.args.from < file_end c.args.mount.now c.args.file = omega (arith, c.requires.some, c.requires.within) in
     let rest : 0 < c.loop.iter.left = omega arith in
-    let at : c.followed-came.result.at ≡ c.zero_next-next.result.at = ap (λ (v : Progress). v.at) c.followed-came.ensures in
-    let on = c.zero_next-next.ensures.came.left in
-    let left = c.loop.invariant.left in
-    zeroes-within c.args.mount.now c.args.file c.args.by c.args.from c.args.to _ _ c.args.pass.now c.zero_next-next.new.pass c.followed-came.result (omega (arith, at, on, left))
-    (range-zeroes c.args.mount.now c.args.file c.args.by c.args.from c.args.to _ _ _ c.args.pass.now c.loop.pass c.zero_next-next.new.pass c.loop.came c.zero_next-next.result c.loop.iter
-    (end-some c.args.mount.now c.args.file c.args.from less) rest c.loop.invariant c.zero_next-next.ensures.zeroed c.followed-came.result c.followed-came.ensures)
+    range-zeroes c.args.mount.now c.args.file c.args.by c.args.from c.args.to _ _ _ c.args.pass.now c.loop.pass c.zero_next-next.new.pass c.loop.came c.zero_next-next.result c.loop.iter
+    (end-some c.args.mount.now c.args.file c.args.from less) rest c.loop.invariant c.zero_next-next.ensures.zeroed c.followed-came.result c.followed-came.ensures

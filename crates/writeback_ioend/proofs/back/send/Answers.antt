@@ -1,6 +1,6 @@
 use Rattle.std.proofs.Common.{◌≡◌, length, vec_len, subst, arith}
 use Rattle.mini_fs.specs.Acts.{HasRun}
-use Rattle.writeback_ioend.proofs.BackLemmas.{can-send, come-back, run-carried, run-tickets}
+use Rattle.writeback_ioend.proofs.BackLemmas.{can-send, come-back, run-carried, run-rose, run-tickets}
 use Rattle.writeback_ioend.proofs.LendLemmas.{tickets-kept}
 use Rattle.writeback_ioend.proofs.back.send.Goals as goal
 
@@ -27,6 +27,6 @@ returns-clause-sent g c = record {
   dones = c.run_all.new.dones.items;
   ran = subst (λ n. HasRun n c.args.pass.now c.run_all.new.pass) (let ok = c.args.bios.ok.0 in let e : vec_len c.args.bios ≡ length c.args.bios.items = omega (arith, ok) in e) (record { pass_is = c.run_all.ensures.pass; shelves = c.run_all.ensures.shelves; pushed = c.run_all.ensures.pushed });
   run = c.run_all.ensures.run;
-  lane = record { ran = c.run_all.ensures.lane; own = c.run_all.ensures.own };
+  lane = record { ran = c.run_all.ensures.lane; own = c.run_all.ensures.own; rose = run-rose c.args.bios.items c.run_all.new.bios.items c.run_all.new.dones.items c.run_all.ensures.run };
   returns = c.take_back.ensures.returns;
 }
